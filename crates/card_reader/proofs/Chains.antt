@@ -22,9 +22,8 @@ use Rattle.card.specs.Card.{Entry, entry, entries_of, entry_count, read_card}
 use Rattle.kind.specs.declared.Meaning.{Meaning}
 use Rattle.kind.specs.declared.Readings.{Readings}
 use Rattle.judge.specs.Once.{readings_for, counts_read}
-use Rattle.judge.specs.Sets.{values_at, counts, chosen_of, keep}
+use Rattle.judge.specs.Sets.{Chosen, values_at, counts, chosen_of, keep}
 use Rattle.judge.specs.Verdicts.{some_value, text_counts}
-use Rattle.judge.specs.declared.Chosen.{Chosen}
 use Rattle.judge.proofs.Once.{once_counts}
 use Rattle.card_reader.specs.Readings.{Serves}
 use Rattle.card_reader.specs.Lists.{entry_cell, reading_at, no_entry, Holds, Last, IsKept, KeepsCard}
@@ -213,12 +212,6 @@ module _ (card cells : List ℕ) (spans : List ℤ) (h : KeepsCard card cells sp
   some_first = sym (found r refl) ∙ sym (by_first_lem (entry_counts c m v) (λ x d. d)) ∙ before_all c i m v (entries_of card)
 
 -- ---- one entry
-
-pub chosen_all : (c : Chosen) (o : ℕ) → c.all ≡ true → true ≡ counts c o
-chosen_all c o h = rw h
-
-pub chosen_one : (c : Chosen) (o n : ℕ) → c.all ≡ false → n ≡ c.occurrence → eqb o n ≡ counts c o
-chosen_one c o n h e = rw (h, e)
 
 module _ (card cells : List ℕ) (spans : List ℤ) (e : ℕ) (x : Entry) (h : Holds card cells spans e x) where
   pub holds_order : get_or cells (entry_cell e + 2) 0 ≤ get_or cells (entry_cell e + 3) 0

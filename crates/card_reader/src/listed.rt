@@ -18,10 +18,10 @@ use judge::Chosen;
 fn is_chosen(chosen: Chosen, occurrence: u64) -> bool
     ensures { result ≡ counts chosen occurrence }
 {
-    if chosen.all {
-        return true;
+    match chosen {
+        Some(own) => occurrence == widest(own),
+        None => true,
     }
-    occurrence == widest(chosen.occurrence)
 }
 
 // What the text of the entry e reads to.

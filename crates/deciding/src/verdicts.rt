@@ -19,10 +19,7 @@ fn verdict(kinds: &[u8], filter: &[u8], rows: &[u32], card: &[u8]) -> u8
     requires rows_len_bound { length rows.now ≤ 320 }
     ensures { result ≡ cell true (rows_say kinds.now filter.now (entries_of card.now) rows.now) }
 {
-    let every = Chosen {
-        all: true,
-        occurrence: 0,
-    };
+    let every: Chosen = None;
     if say_once(kinds, filter, rows, card, every) {
         return 1;
     }

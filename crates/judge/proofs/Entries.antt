@@ -1,19 +1,18 @@
 -- Loops over a card's entries: what an entry at hand decides, and what is left to the entries to come.
 -- Assumes nothing.
+use Rattle.std.specs.Prelude.{None}
 use Prim.Native.Nat.{ℕ, ◌≤◌}
 use mathlib.Core.Path.{◌≡◌, refl, ap, sym, ◌∙◌}
 use mathlib.Core.Bool.{Bool, true, false, ◌&&◌, ◌||◌}
 use mathlib.Core.List.{List, [], ◌∷◌}
 use lib.Dec.{eqb}
 use lib.ListN.{length, get_or, get_or-eq_default}
-use borrow.Author.Tests.{eq-eqb, ne_eqb}
-use Rattle.base.proofs.Tests.{both_ways, and_left, and_right}
+use Rattle.base.proofs.Tests.{and_left, and_right}
 use Rattle.card.specs.Card.{Entry, entry}
 use Rattle.kind.specs.Readable.{card_readable}
 use Rattle.kind.specs.Table as table
 use Rattle.kind.specs.declared.Meaning.{Meaning}
-use Rattle.judge.specs.Sets.{values_at, counts, chosen_of, conforms_to, keep}
-use Rattle.judge.specs.declared.Chosen.{Chosen}
+use Rattle.judge.specs.Sets.{Chosen, values_at, counts, chosen_of, conforms_to, keep}
 use Rattle.judge.specs.Verdicts.{some_value, text_counts}
 
 -- ---- conforming
@@ -41,20 +40,9 @@ conforms_end kinds = refl
 
 -- ---- entries that count
 
-module _ (c : Chosen) (o : ℕ) (same : Bool) where
-  pub under_all : c.all ≡ true → same ≡ (counts c o && same)
-  under_all h = rw h
-
-  module _ (n : c.all ≡ false) where
-    pub under_one : o ≡ c.occurrence → same ≡ (counts c o && same)
-    under_one e = rw (n, eq-eqb o c.occurrence e)
-
-    pub under_other : (o ≡ c.occurrence → ⊥) → false ≡ (counts c o && same)
-    under_other e = rw (n, ne_eqb o c.occurrence e)
-
 -- all entries of a card
 abbrev pub every : Chosen
-every = record { all = true; occurrence = 0 }
+every = None
 
 pub chosen-every : (es : List Entry) → chosen_of every es ≡ es
 unfolding chosen_of keep
@@ -67,15 +55,6 @@ abbrev pub some_counts : Chosen → ℕ → Meaning → List ℕ → List Entry 
 some_counts c i m v es = some_value (text_counts m v) (values_at i (chosen_of c es))
 
 module _ (c : Chosen) (i : ℕ) (m : Meaning) (v : List ℕ) (j o : ℕ) (t : List ℕ) (es : List Entry) (under : Bool) (k : under ≡ (counts c o && eqb j i)) where
-  pub some_other : under ≡ false → some_counts c i m v (entry j o t ∷ es) ≡ some_counts c i m v es
-  unfolding chosen_of values_at some_value keep
-  some_other h = go (counts c o) (eqb j i) refl refl
-    where
-      go : (u w : Bool) → counts c o ≡ u → eqb j i ≡ w → some_counts c i m v (entry j o t ∷ es) ≡ some_counts c i m v es
-      go true true p q = both_ways (k ∙ rw (p, q)) h
-      go true false p q = rw (p, q)
-      go false w p q = rw p
-
   module _ (b : Bool) (h : under ≡ true) (g : b ≡ text_counts m v t) where
     some_step : some_counts c i m v (entry j o t ∷ es) ≡ (b || some_counts c i m v es)
     unfolding chosen_of values_at some_value keep
@@ -85,9 +64,6 @@ module _ (c : Chosen) (i : ℕ) (m : Meaning) (v : List ℕ) (j o : ℕ) (t : Li
 
     pub some_here : b ≡ true → true ≡ some_counts c i m v (entry j o t ∷ es)
     some_here f = sym (some_step ∙ ap (λ (y : Bool). y || some_counts c i m v es) f)
-
-    pub some_next : b ≡ false → some_counts c i m v (entry j o t ∷ es) ≡ some_counts c i m v es
-    some_next f = some_step ∙ ap (λ (y : Bool). y || some_counts c i m v es) f
 
 pub some_end : (c : Chosen) (i : ℕ) (m : Meaning) (v : List ℕ) → false ≡ some_counts c i m v []
 unfolding chosen_of values_at some_value keep

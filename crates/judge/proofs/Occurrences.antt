@@ -1,5 +1,6 @@
 -- The entries of one occurrence, among those of a card that count.
 -- Assumes nothing.
+use Rattle.std.specs.Prelude.{Some}
 use Prim.Native.Nat.{ℕ}
 use mathlib.Core.Path.{◌≡◌, refl, ap, ◌∙◌}
 use mathlib.Core.Bool.{Bool, true, false}
@@ -8,11 +9,10 @@ use lib.Dec.{eqb}
 use borrow.Author.Tests.{eqb-true}
 use Rattle.base.proofs.Tests.{both_ways}
 use Rattle.card.specs.Card.{Entry}
-use Rattle.judge.specs.Sets.{counts, chosen_of, of_occurrence, keep}
-use Rattle.judge.specs.declared.Chosen.{Chosen}
+use Rattle.judge.specs.Sets.{Chosen, counts, chosen_of, of_occurrence, keep}
 
 -- the entries that count, where they are one occurrence's
-pub chosen_one : (o : ℕ) (es : List Entry) → chosen_of (record { all = false; occurrence = o }) es ≡ of_occurrence o es
+pub chosen_one : (o : ℕ) (es : List Entry) → chosen_of (Some o) es ≡ of_occurrence o es
 unfolding chosen_of of_occurrence keep
 chosen_one o [] = refl
 chosen_one o (e ∷ es) = rw (chosen_one o es)

@@ -4,14 +4,13 @@ use Prim.Native.Nat.{ℕ}
 use mathlib.Core.Path.{◌≡◌, refl, ap, ◌∙◌}
 use mathlib.Core.Bool.{Bool, true, false, not}
 use mathlib.Core.List.{List}
-use Rattle.base.proofs.Tests.{both_ways}
 use Rattle.kind.specs.Relations.{Kept, relates_read}
 use Rattle.kind.specs.declared.Readings.{Readings}
 use Rattle.kind.specs.declared.Relation.{Relation}
 use Rattle.kind.specs.declared.Meaning.{Meaning}
 use Rattle.kind.proofs.Values.{relates_is, unread_kept, readings_kept}
 use Rattle.judge.specs.Verdicts.{text_counts}
-use Rattle.judge.specs.Once.{readings_for, counts_read, Given}
+use Rattle.judge.specs.Once.{readings_for, counts_read}
 
 pub counts_once : (m : Meaning) (v x : List ℕ) → counts_read m v (readings_for m v) x ≡ text_counts m v x
 unfolding readings_for counts_read text_counts
@@ -54,16 +53,3 @@ module _ (m : Meaning) (v : List ℕ) (w : Readings) (e : w ≡ readings_for m v
 
   pub once_counts : (x : List ℕ) (t : Bool) → t ≡ counts_read m v w x → t ≡ text_counts m v x
   once_counts x t h = h ∙ ap (λ (y : Readings). counts_read m v y x) e ∙ counts_once m v x
-
-module _ {known : Bool} {m : Meaning} {v : List ℕ} {w : Readings} (g : Given known m v w) (h : known ≡ true) where
-  pub known_kept : Kept w.number
-  known_kept = once_kept m v w (g.readings h)
-
-  pub known-counts : (x : List ℕ) (t : Bool) → t ≡ counts_read m v w x → t ≡ text_counts m v x
-  known-counts = once_counts m v w (g.readings h)
-
-pub not_given : (m : Meaning) (v : List ℕ) (w : Readings) → Given false m v w
-not_given m v w = record { readings = λ e. both_ways e refl }
-
-pub is_given : (m : Meaning) (v : List ℕ) (w : Readings) → w ≡ readings_for m v → Given true m v w
-is_given m v w e = record { readings = λ h. e }

@@ -1,6 +1,6 @@
 -- A filter's value that is read once for many texts.
 -- Assumes nothing.
-use Rattle.std.specs.Prelude.{ℕ, ◌≡◌, Bool, true, false, not, List}
+use Rattle.std.specs.Prelude.{ℕ, Bool, true, false, not, List}
 use Rattle.kind.specs.Relations.{unread, readings_of, relates_read}
 use Rattle.kind.specs.declared.Readings.{Readings}
 use Rattle.kind.specs.declared.Meaning.{Meaning}
@@ -18,7 +18,3 @@ counts_read Meaning.Present v w x = true
 counts_read (Meaning.Relates r) v w x = relates_read r x v w
 counts_read (Meaning.Differs r) v w x = not (relates_read r x v w)
 counts_read Meaning.Nothing v w x = false
-
--- what a value reads to is given, where known says so
-pub record Given (known : Bool) (m : Meaning) (v : List ℕ) (w : Readings) : Type 0 where
-  pub readings : known ≡ true → w ≡ readings_for m v

@@ -1,13 +1,12 @@
 -- Paths on a sheet, the texts of a card under them, and which cards conform to a sheet.
 -- Assumes nothing.
-use Rattle.std.specs.Prelude.{ℕ, Bool, true, cond, ◌&&◌, ◌||◌, List, [], ◌∷◌, eqb, get_or, Option}
+use Rattle.std.specs.Prelude.{ℕ, Bool, true, cond, ◌&&◌, ◌||◌, List, [], ◌∷◌, eqb, get_or, Option, Some, None}
 use Rattle.sheet.specs.Sheet.{Parameter, kind_at}
 use Rattle.sheet.specs.Find.{find, enter}
 use Rattle.sheet.specs.declared.Found.{Found}
 use Rattle.card.specs.Card.{Entry}
 use Rattle.syntax.specs.Tree.{Path, name, member}
 use Rattle.kind.specs.Readable.{card_readable}
-use Rattle.judge.specs.declared.Chosen.{Chosen}
 
 -- index and kind of the parameter that a path names, looked up in c
 unfoldable pub lookup : List Parameter → ℕ → Path → Option Found
@@ -32,9 +31,14 @@ keep p (e ∷ es) = cond (p e) (e ∷ keep p es) (keep p es)
 unfoldable pub of_occurrence : ℕ → List Entry → List Entry
 of_occurrence o = keep (λ (e : Entry). eqb e.occurrence o)
 
+-- which entries of a card count: those of one occurrence, or where it is None all
+abbrev pub Chosen : Type 0
+Chosen = Option ℕ
+
 -- whether entries of an occurrence count, and those that do
 abbrev pub counts : Chosen → ℕ → Bool
-counts c o = c.all || eqb o c.occurrence
+counts None o = true
+counts (Some c) o = eqb o c
 
 unfoldable pub chosen_of : Chosen → List Entry → List Entry
 chosen_of c = keep (λ (e : Entry). counts c e.occurrence)

@@ -13,9 +13,5 @@ pub use sets::{conforms, is_under, some_counts};
 pub use values::{counts_read, readings_for};
 pub use verdicts::{says_of, some_says};
 
-// Which entries of a card count: all, or those of one occurrence.
-#[derive(Clone, Copy)]
-pub struct Chosen {
-    pub all: bool,
-    pub occurrence: u8,
-}
+// Which entries of a card count: those of one occurrence, or where it is None all.
+pub type Chosen = Option<u8>;

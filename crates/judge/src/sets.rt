@@ -4,12 +4,11 @@ ghost use Rattle.card.specs.Card.{entries_of, read_card};
 ghost use Rattle.kind.specs.Readable.{card_readable};
 ghost use Rattle.judge.specs.Sets.{values_at, counts, chosen_of, conforms_to};
 ghost use Rattle.judge.specs.Verdicts.{some_value, text_counts};
-ghost use Rattle.judge.specs.Once.{Given};
 
 use crate::Chosen;
-use crate::values::text_counts_by;
+use crate::values::text_counts;
 use block::Validity;
-use kind::{Meaning, Readings};
+use kind::Meaning;
 
 // Whether the text of an entry is readable as the kind of its parameter.
 fn entry_conforms(kinds: &[u8], index: u8, text: &[u8]) -> bool
@@ -46,27 +45,15 @@ pub fn conforms(kinds: &[u8], card: &[u8]) -> bool
 pub fn is_under(chosen: Chosen, occurrence: u8, same: bool) -> bool
     ensures { result ≡ (counts chosen occurrence && same) }
 {
-    if chosen.all {
-        return same;
+    match chosen {
+        Some(own) => occurrence == own && same,
+        None => same,
     }
-    if occurrence == chosen.occurrence {
-        return same;
-    }
-    false
 }
 
-// Whether some text under a parameter counts for a meaning and a value, among the entries that count; what the value reads to may be known.
-pub fn some_counts(
-    card: &[u8],
-    chosen: Chosen,
-    index: u8,
-    meaning: Meaning,
-    value: &[u8],
-    known: bool,
-    readings: Readings,
-) -> bool
-    requires card_value { read_card card.now ≡ Validity.WellFormed }
-    requires given { Given known meaning value.now readings }
+// Whether some text under a parameter counts for a meaning and a value, among the entries that count.
+pub fn some_counts(card: &[u8], chosen: Chosen, index: u8, meaning: Meaning, value: &[u8]) -> bool
+    requires { read_card card.now ≡ Validity.WellFormed }
     ensures { result ≡ some_value (text_counts meaning value.now) (values_at index (chosen_of chosen (entries_of card.now))) }
 {
     let mut at = card::FIRST_ENTRY;
@@ -75,16 +62,13 @@ pub fn some_counts(
         let e = card::entry_at(card, at, left);
         let start = e.start;
         let end = e.end;
-        if is_under(chosen, e.occurrence, e.index == index) {
-            if text_counts_by(known, meaning, value, readings, &card[start..end]) {
-                return true;
-            }
-            at = end;
-            left -= 1;
-        } else {
-            at = end;
-            left -= 1;
+        if is_under(chosen, e.occurrence, e.index == index)
+            && text_counts(meaning, value, &card[start..end])
+        {
+            return true;
         }
+        at = end;
+        left -= 1;
     }
     false
 }

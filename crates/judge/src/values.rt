@@ -1,7 +1,7 @@
 // A filter's value that is read once for many texts.
 ghost use Rattle.std.specs.Prelude.{◌≡◌};
 ghost use Rattle.kind.specs.Relations.{Kept};
-ghost use Rattle.judge.specs.Once.{readings_for, counts_read, Given};
+ghost use Rattle.judge.specs.Once.{readings_for, counts_read};
 ghost use Rattle.judge.specs.Verdicts.{text_counts};
 
 use kind::{Meaning, Readings};
@@ -31,26 +31,10 @@ pub fn counts_read(meaning: Meaning, value: &[u8], readings: Readings, text: &[u
     }
 }
 
-// Whether a text counts for a meaning and a value: for pr each does.
+// Whether a text counts for a meaning and a value: for pr each does. The value is read only now, when there is a text to
+// compare.
 pub fn text_counts(meaning: Meaning, value: &[u8], text: &[u8]) -> bool
     ensures { result ≡ text_counts meaning value.now text.now }
 {
     counts_read(meaning, value, readings_for(meaning, value), text)
-}
-
-// The same, with what the value reads to where that is known; else it is read only now, when there is a text to compare.
-pub fn text_counts_by(
-    known: bool,
-    meaning: Meaning,
-    value: &[u8],
-    readings: Readings,
-    text: &[u8],
-) -> bool
-    requires { Given known meaning value.now readings }
-    ensures { result ≡ text_counts meaning value.now text.now }
-{
-    if known {
-        return counts_read(meaning, value, readings, text);
-    }
-    text_counts(meaning, value, text)
 }

@@ -15,7 +15,7 @@ pub fn says_of(card: &[u8], chosen: Chosen, index: u8, meaning: Meaning, value: 
     requires { read_card card.now ≡ Validity.WellFormed }
     ensures { result ≡ says_of meaning value.now (values_at index (chosen_of chosen (entries_of card.now))) }
 {
-    let some = some_counts(card, chosen, index, meaning, value, false, kind::unread());
+    let some = some_counts(card, chosen, index, meaning, value);
     some_says(meaning, kind::is_true(value), some)
 }
 

@@ -59,10 +59,7 @@ pub fn judge_by_rows(
     let accepted = take_card(kinds, card, cells, spans);
     match accepted {
         Ok(()) => {
-            let every = Chosen {
-                all: true,
-                occurrence: 0,
-            };
+            let every: Chosen = None;
             Ok(rows_say(filter, rows, values, ends, card, cells, spans, every))
         }
         Err(reason) => Err(reason),

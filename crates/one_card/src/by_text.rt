@@ -21,10 +21,7 @@ fn text_says(sheet: &[u8], filter: &[u8], card: &[u8]) -> bool
     ensures { result ≡ text_says (parameters_of sheet.now) (entries_of card.now) (read filter.now) }
 {
     let spot = top(filter);
-    let every = Chosen {
-        all: true,
-        occurrence: 0,
-    };
+    let every: Chosen = None;
     let judged = judge_filter(true, sheet, card, every, filter, spot);
     match judged {
         Judged::Done(_, says) => says,

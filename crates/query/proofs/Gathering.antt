@@ -6,11 +6,14 @@
 -- signs left. A turn takes one sign off, and the position grows. A comma or the end of the bytes ends the alternative (`gathering_cut`,
 -- `gathering_ends`).
 -- Assumes nothing.
+use Rattle.std.specs.Prelude.{Option, Some, None, unwrap_or}
+use Rattle.std.specs.Option.{option_or}
+use Rattle.std.proofs.lemmas.Option.{none-some, same_Some}
 use Prim.Native.Nat.{ℕ, suc, ◌+◌, ◌-◌, ◌≤◌, ◌<◌}
 use native.Mathlib.Numerals.{add-one}
 use native.Mathlib.Omega.{arith}
 use mathlib.Core.Path.{◌≡◌, refl, ap, sym, ◌∙◌, subst}
-use mathlib.Core.Bool.{Bool, true, false, cond}
+use mathlib.Core.Bool.{Bool, true, false}
 use mathlib.Core.List.{List, [], ◌∷◌, ◌++◌, append_assoc, append-nil}
 use lib.Dec.{eqb, ltb}
 use lib.ListN.{length, get_or, take, drop, set, length-set, drop_of_length-le}
@@ -127,15 +130,15 @@ module _ (s : List ℕ) (i : ℕ) where
 abbrev pub first : List ℕ → ℕ → List Sign
 first s i = first_of (signs_from s i)
 
-pub record Gathering (s : List ℕ) (at : ℕ) (out : List ℕ) (i n split : ℕ) (whole : Bool) : Type 0 where
+pub record Gathering (s : List ℕ) (at : ℕ) (out : List ℕ) (i n : ℕ) (split : Option ℕ) : Type 0 where
   pub within : i ≤ length s
   pub written : at + n ≤ i
   pub room : length s ≤ at + length out
   pub text : text_of (first s at) ≡ take n out ++ text_of (first s i)
-  pub splits : split_of (first s at) ≡ cond whole (n + split_of (first s i)) split
+  pub splits : split_of (first s at) ≡ unwrap_or split (n + split_of (first s i))
   pub rest : rest_of (signs_from s at) ≡ rest_of (signs_from s i)
 
-pub gathering_starts : (s : List ℕ) (at : ℕ) (out : List ℕ) → at ≤ length s → length s - at ≤ length out → Gathering s at out at 0 0 true
+pub gathering_starts : (s : List ℕ) (at : ℕ) (out : List ℕ) → at ≤ length s → length s - at ≤ length out → Gathering s at out at 0 None
 gathering_starts s at out h k =
     record { within = h; written = omega arith; room = omega arith; text = refl; splits = sym (zero_sum (split_of (first s at))); rest = refl }
   where
@@ -175,15 +178,19 @@ end_text : (text_of (first_of (signs_of false [])) ≡ []) × (split_of (first_o
 unfolding text_of split_of first_of rest_of signs_of
 end_text = (refl, refl, refl)
 
-split-on : (whole : Bool) (n m k k' : ℕ) → m ≡ suc k → cond whole (n + m) k' ≡ cond whole (n + 1 + k) k'
-split-on true n m k k' e = omega arith
-split-on false n m k k' e = refl
+split-on : (split : Option ℕ) (n m k : ℕ) → m ≡ suc k → unwrap_or split (n + m) ≡ unwrap_or split (n + 1 + k)
+split-on (Some x) n m k e = refl
+split-on None n m k e = omega arith
 
-split-here : (whole : Bool) (n m k' : ℕ) → m ≡ 0 → cond whole (n + m) k' ≡ cond whole n k'
-split-here true n m k' e = omega arith
-split-here false n m k' e = refl
+split-here : (split : Option ℕ) (n m : ℕ) → m ≡ 0 → unwrap_or split (n + m) ≡ unwrap_or split n
+split-here (Some x) n m e = refl
+split-here None n m e = omega arith
 
-module _ {s : List ℕ} {at : ℕ} {out : List ℕ} {i n split : ℕ} {whole : Bool} (g : Gathering s at out i n split whole) where
+split_first : (split : Option ℕ) (n m : ℕ) → unwrap_or (option_or split (Some n)) m ≡ unwrap_or split n
+split_first (Some x) n m = refl
+split_first None n m = refl
+
+module _ {s : List ℕ} {at : ℕ} {out : List ℕ} {i n : ℕ} {split : Option ℕ} (g : Gathering s at out i n split) where
   pub gathering_room : i < length s → n < length out
   gathering_room h = omega (arith, g.written, g.room)
 
@@ -197,31 +204,32 @@ module _ {s : List ℕ} {at : ℕ} {out : List ℕ} {i n split : ℕ} {whole : B
     is : {x : Mark} → m ≡ x → MarkIs s i x
     is k = subst (MarkIs s i) (sym e ∙ k) (mark-outcome s i h)
 
-    pub gathering_byte : (b next : ℕ) → m ≡ Mark.Byte b next → Gathering s at (set out n b) next (n + 1) split whole
+    pub gathering_byte : (b next : ℕ) → m ≡ Mark.Byte b next → Gathering s at (set out n b) next (n + 1) split
     gathering_byte b next k = by_mark (is k)
       where
-        by_mark : MarkIs s i (Mark.Byte b next) → Gathering s at (set out n b) next (n + 1) split whole
+        by_mark : MarkIs s i (Mark.Byte b next) → Gathering s at (set out n b) next (n + 1) split
         by_mark (mark_is_byte x y z) =
             record {
               within = y;
               written = omega (arith, g.written);
               room = rw length-set g.room;
               text = put b next (text_of (first s next)) h (ap (λ (v : List Sign). text_of (first_of v)) z ∙ byte_text b (signs_from s next));
-              splits = g.splits ∙ split-on whole n (split_of (first s i)) (split_of (first s next)) split (ap (λ (v : List Sign). split_of (first_of v)) z ∙ byte_split b (signs_from s next));
+              splits = g.splits ∙ split-on split n (split_of (first s i)) (split_of (first s next)) (ap (λ (v : List Sign). split_of (first_of v)) z ∙ byte_split b (signs_from s next));
               rest = g.rest ∙ ap rest_of z ∙ byte_rest b (signs_from s next);
             }
 
-    pub gathering_split : (next r : ℕ) → m ≡ Mark.Split next → r ≡ cond whole n split → Gathering s at (set out n 124) next (n + 1) r false
+    pub gathering_split : (next : ℕ) (r : Option ℕ) → m ≡ Mark.Split next → r ≡ option_or split (Some n) → Gathering s at (set out n 124) next (n + 1) r
     gathering_split next r k u = by_mark (is k)
       where
-        by_mark : MarkIs s i (Mark.Split next) → Gathering s at (set out n 124) next (n + 1) r false
+        by_mark : MarkIs s i (Mark.Split next) → Gathering s at (set out n 124) next (n + 1) r
         by_mark (mark_is_split x y z) =
             record {
               within = y;
               written = omega (arith, g.written);
               room = rw length-set g.room;
               text = put 124 next (text_of (first s next)) h (ap (λ (v : List Sign). text_of (first_of v)) z ∙ split_text (signs_from s next));
-              splits = g.splits ∙ split-here whole n (split_of (first s i)) split (ap (λ (v : List Sign). split_of (first_of v)) z ∙ split-split (signs_from s next)) ∙ sym u;
+              splits = g.splits ∙ split-here split n (split_of (first s i)) (ap (λ (v : List Sign). split_of (first_of v)) z ∙ split-split (signs_from s next))
+                  ∙ sym (split_first split n (n + 1 + split_of (first s next))) ∙ ap (λ (o : Option ℕ). unwrap_or o (n + 1 + split_of (first s next))) (sym u);
               rest = g.rest ∙ ap rest_of z ∙ split_rest (signs_from s next);
             }
 
@@ -237,31 +245,29 @@ module _ {s : List ℕ} {at : ℕ} {out : List ℕ} {i n split : ℕ} {whole : B
         by_mark : MarkIs s i (Mark.Split next) → length s - next < length s - i
         by_mark (mark_is_split x y z) = omega arith
 
-    pub gathering_cut : (next r : ℕ) → m ≡ Mark.Cut next → r ≡ cond whole n split → PieceOf s at out (record { len = n; split = r; next = next; more = true })
+    pub gathering_cut : (next r : ℕ) → m ≡ Mark.Cut next → r ≡ unwrap_or split n → PieceOf s at out (record { len = n; split = r; next = Some next })
     gathering_cut next r k u = by_mark (is k)
       where
-        by_mark : MarkIs s i (Mark.Cut next) → PieceOf s at out (record { len = n; split = r; next = next; more = true })
+        by_mark : MarkIs s i (Mark.Cut next) → PieceOf s at out (record { len = n; split = r; next = Some next })
         by_mark (mark_is_cut x y z) =
             let c = cut_text (signs_from s next) in
             record {
               text = sym (append-nil (take n out)) ∙ ap (λ (t : List ℕ). take n out ++ t) (sym (ap (λ (v : List Sign). text_of (first_of v)) z ∙ c.0)) ∙ sym g.text;
-              splits = u ∙ sym (g.splits ∙ split-here whole n (split_of (first s i)) split (ap (λ (v : List Sign). split_of (first_of v)) z ∙ c.1));
+              splits = u ∙ sym (g.splits ∙ split-here split n (split_of (first s i)) (ap (λ (v : List Sign). split_of (first_of v)) z ∙ c.1));
               rest = g.rest ∙ ap rest_of z ∙ c.2;
-              within = y;
               few = omega (arith, g.written);
               fits = omega (arith, g.written, g.room);
-              on = λ t. omega (arith, g.written);
+              on = λ j t. let same : next ≡ j = same_Some next j t in (omega (arith, g.written), omega arith);
             }
 
-  pub gathering_ends : (r : ℕ) → length s ≤ i → r ≡ cond whole n split → PieceOf s at out (record { len = n; split = r; next = i; more = false })
+  pub gathering_ends : (r : ℕ) → length s ≤ i → r ≡ unwrap_or split n → PieceOf s at out (record { len = n; split = r; next = None })
   gathering_ends r h u =
       let z : signs_from s i ≡ signs_of false [] = ap (signs_of false) (drop_of_length-le s h) in
       record {
         text = sym (append-nil (take n out)) ∙ ap (λ (t : List ℕ). take n out ++ t) (sym (ap (λ (v : List Sign). text_of (first_of v)) z ∙ end_text.0)) ∙ sym g.text;
-        splits = u ∙ sym (g.splits ∙ split-here whole n (split_of (first s i)) split (ap (λ (v : List Sign). split_of (first_of v)) z ∙ end_text.1));
+        splits = u ∙ sym (g.splits ∙ split-here split n (split_of (first s i)) (ap (λ (v : List Sign). split_of (first_of v)) z ∙ end_text.1));
         rest = g.rest ∙ ap rest_of z ∙ end_text.2;
-        within = g.within;
-        few = g.written;
+        few = omega (arith, g.written, g.within);
         fits = omega (arith, g.written, g.room, g.within);
-        on = λ t. absurd (let y : ◌≡◌ {A = ℕ} 0 1 = cc in omega arith);
+        on = λ j t. absurd (none-some j t);
       }

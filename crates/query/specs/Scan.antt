@@ -1,6 +1,6 @@
 -- What the reader's code answers: the byte at a position of a name or a value, what stands at a position of a decoded value, an alternative.
 -- Assumes nothing.
-use Rattle.std.specs.Prelude.{ℕ, ◌+◌, ◌≤◌, ◌<◌, ◌≡◌, true, false, cond, List, [], ◌∷◌, map, eqb, ltb, length, get_or, take, drop, Option, Some, None}
+use Rattle.std.specs.Prelude.{ℕ, ◌+◌, ◌≤◌, ◌<◌, ◌≡◌, false, cond, List, [], ◌∷◌, map, eqb, ltb, length, get_or, take, drop, Option, Some, None}
 use Rattle.text.specs.Bar.{bar}
 use Rattle.syntax.specs.Strings.{backslash}
 use Rattle.query.specs.Spelling.{percent, plus, comma, Sign, byte, cut, split}
@@ -52,15 +52,20 @@ rest_of (split ∷ v) = rest_of v
 abbrev pub signs_from : List ℕ → ℕ → List Sign
 signs_from s i = signs_of false (drop i s)
 
+-- the alternatives of the value from a position on, if one begins there
+abbrev pub cut_from : List ℕ → Option ℕ → List (List Sign)
+cut_from s (Some i) = cut_signs (signs_from s i)
+cut_from s None = []
+
 -- what `next_alternative` leaves: the first bytes of out are the alternative's text
 pub record PieceOf (s : List ℕ) (at : ℕ) (out : List ℕ) (r : Piece) : Type 0 where
   pub text : take r.len out ≡ text_of (first_of (signs_from s at))
   pub splits : r.split ≡ split_of (first_of (signs_from s at))
-  pub rest : rest_of (signs_from s at) ≡ cond r.more (cut_signs (signs_from s r.next)) []
-  pub within : r.next ≤ length s
-  pub few : at + r.len ≤ r.next
+  pub rest : rest_of (signs_from s at) ≡ cut_from s r.next
+  pub few : at + r.len ≤ length s
   pub fits : r.len ≤ length out
-  pub on : r.more ≡ true → at + r.len < r.next
+  -- the next one begins behind its text and a comma
+  pub on : (i : ℕ) → r.next ≡ Some i → (at + r.len < i) × (i ≤ length s)
 
 -- ---- a pair
 

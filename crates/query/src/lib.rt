@@ -23,13 +23,12 @@ pub enum Mark {
     Split(usize),
 }
 
-// An alternative that was written: its length, where a token is split, where the value goes on, and whether another alternative follows.
+// An alternative that was written: its length, where a token is split, and where the next alternative begins, if one follows.
 #[derive(Clone, Copy)]
 pub struct Piece {
     pub len: usize,
     pub split: usize,
-    pub next: usize,
-    pub more: bool,
+    pub next: Option<usize>,
 }
 
 // How many bytes the name and the value of a pair stand for.

@@ -1,5 +1,5 @@
 // Alternatives of a decoded value: a comma cuts, a bar splits a token, and a backslash makes them plain.
-ghost use Rattle.std.specs.Prelude.{cond, ◌≡◌, ◌≤◌, ◌<◌, ◌-◌, length};
+ghost use Rattle.std.specs.Prelude.{◌≡◌, ◌≤◌, ◌<◌, ◌-◌, length};
 ghost use Rattle.query.specs.Reader.{is_special};
 ghost use Rattle.query.specs.Scan.{mark_at, PieceOf};
 
@@ -40,16 +40,6 @@ fn mark_at(s: &[u8], at: usize) -> Mark
     Mark::Byte(b, at + 1)
 }
 
-// Where a token is split: at n, where no bar has split it before.
-fn split_of(whole: bool, split: usize, n: usize) -> usize
-    ensures { result ≡ cond whole n split }
-{
-    if whole {
-        return n;
-    }
-    split
-}
-
 // Writes the alternative that begins at a position.
 pub fn next_alternative(s: &[u8], at: usize, out: &mut [u8]) -> Piece
     requires at_in_bounds { at ≤ length s.now }
@@ -58,8 +48,7 @@ pub fn next_alternative(s: &[u8], at: usize, out: &mut [u8]) -> Piece
 {
     let mut i = at;
     let mut n = 0;
-    let mut split = 0;
-    let mut whole = true;
+    let mut split = None;
     while i < s.len() {
         match mark_at(s, i) {
             Mark::Byte(b, next) => {
@@ -69,25 +58,22 @@ pub fn next_alternative(s: &[u8], at: usize, out: &mut [u8]) -> Piece
             }
             Mark::Split(next) => {
                 out[n] = b'|';
-                split = split_of(whole, split, n);
-                whole = false;
+                split = split.or(Some(n));
                 n += 1;
                 i = next;
             }
             Mark::Cut(next) => {
                 return Piece {
                     len: n,
-                    split: split_of(whole, split, n),
-                    next,
-                    more: true,
+                    split: split.unwrap_or(n),
+                    next: Some(next),
                 };
             }
         }
     }
     Piece {
         len: n,
-        split: split_of(whole, split, n),
-        next: i,
-        more: false,
+        split: split.unwrap_or(n),
+        next: None,
     }
 }

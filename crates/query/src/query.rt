@@ -41,9 +41,8 @@ pub fn keep_pair(
 {
     let mut rows = entry;
     let mut used = start;
-    let mut from = 0;
-    let mut more = true;
-    while more {
+    let mut next = Some(0);
+    while let Some(from) = next {
         let piece = next_alternative(value, from, &mut bytes[used..]);
         let end = used + piece.len;
         rows = push(
@@ -55,12 +54,11 @@ pub fn keep_pair(
                 text: used,
                 end,
                 split: piece.split,
-                last: !piece.more,
+                last: piece.next.is_none(),
             },
         );
         used = end;
-        from = piece.next;
-        more = piece.more;
+        next = piece.next;
     }
     Held { rows, used }
 }
@@ -83,7 +81,7 @@ pub fn no_rows() -> Rows
     }
 }
 
-// Reads the pairs of a search string: a row for each alternative, over the bytes that are written into the buffer; or 50 where
+// Reads the pairs of a search string: a row for each alternative, over the bytes that are written into the buffer; or where
 // the first pair begins that is none.
 pub fn read_query(text: &[u8], bytes: &mut [u8]) -> Result<Rows, Refusal>
     requires text_len_bound { length text.now ≤ 1024 }
@@ -93,9 +91,8 @@ pub fn read_query(text: &[u8], bytes: &mut [u8]) -> Result<Rows, Refusal>
     let mut rows = no_rows();
     let mut used = 0;
     let mut at = 0;
-    let mut more = true;
     let mut value = [0u8; 1024];
-    while more {
+    loop {
         let end = base::first_from(text, at, b'&');
         let read = read_pair(&text[at..end], &mut bytes[used..], &mut value);
         let Some(lengths) = read else {
@@ -108,10 +105,11 @@ pub fn read_query(text: &[u8], bytes: &mut [u8]) -> Result<Rows, Refusal>
         let held = keep_pair(&value[..lengths.value], at, used, until, until, bytes, rows);
         rows = held.rows;
         used = held.used;
-        more = end < text.len();
+        if end == text.len() {
+            return Ok(rows);
+        }
         at = end + 1;
     }
-    Ok(rows)
 }
 
 // Reads a search string: its alternatives, or 10, 50 or 51, in this order.

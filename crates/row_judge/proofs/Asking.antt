@@ -16,8 +16,7 @@ use Rattle.rows.specs.declared.Row.{Row}
 use Rattle.rows.proofs.Cells.{test_index}
 use Rattle.block.specs.declared.Validity.TheVariants.{WellFormed}
 use Rattle.card.specs.Card.{entries_of, read_card}
-use Rattle.judge.specs.Sets.{chosen_of, conforms_to}
-use Rattle.judge.specs.declared.Chosen.{Chosen}
+use Rattle.judge.specs.Sets.{Chosen, chosen_of, conforms_to}
 use Rattle.card_reader.specs.Lists.{Lent, kinds_in, KeepsCard, BeginsAlike, ReadsCard}
 use Rattle.card_reader.specs.Lending.{Lends, Keeps}
 use Rattle.card_reader.proofs.Lends.{kinds-alike}

@@ -4,6 +4,7 @@
 -- verdict of a test after brackets, by the set of the entries that are kept, is found from whether there is an entry that counts and of
 -- whose occurrence the rows in the brackets say yes (`each_is`, from `entry_is`, by induction on the entries).
 -- Assumes nothing.
+use Rattle.std.specs.Prelude.{Some}
 use Prim.Native.Nat.{ℕ, zero, suc, ◌+◌, ◌*◌, ◌-◌, ◌/◌, ◌≤◌, ◌<◌}
 use native.Mathlib.Omega.{arith}
 use mathlib.Core.Path.{◌≡◌, refl, sym, ap, ap₂, subst, ◌∙◌}
@@ -29,9 +30,8 @@ use Rattle.kind.specs.Table.{meaning_of}
 use Rattle.kind.specs.Readable.{is_true}
 use Rattle.kind.specs.declared.Readings.{Readings}
 use Rattle.kind.specs.declared.Meaning.{Meaning}
-use Rattle.judge.specs.Sets.{values_at, counts, chosen_of, of_occurrence, keep}
+use Rattle.judge.specs.Sets.{Chosen, values_at, counts, chosen_of, of_occurrence, keep}
 use Rattle.judge.specs.Verdicts.{some_value, text_counts, some_says, says_of, joined}
-use Rattle.judge.specs.declared.Chosen.{Chosen}
 use Rattle.judge.specs.Once.{readings_for}
 use Rattle.judge.proofs.Meaning.{says_some, says_by_some}
 use Rattle.judge.proofs.Occurrences.{chosen_one, occurrence_whole}
@@ -189,7 +189,7 @@ module _ (says : ℕ → Bool) (k : Chosen) (i : ℕ) (m : Meaning) (v card cell
 unfoldable pub in_brackets : List ℕ → List ℕ → List ℕ → List Entry → ℕ → Bool
 in_brackets kinds xs rows all o = occurrence_says kinds xs all (take (length rows - 1) (drop 1 rows)) o
 
-pub occurrence_says_lem : (kinds xs rows : List ℕ) (all : List Entry) (o : ℕ) (r : Bool) → r ≡ rows_say kinds xs (chosen_of (record { all = false; occurrence = o }) all) (take (length rows - 1) (drop 1 rows)) → r ≡ in_brackets kinds xs rows all o
+pub occurrence_says_lem : (kinds xs rows : List ℕ) (all : List Entry) (o : ℕ) (r : Bool) → r ≡ rows_say kinds xs (chosen_of (Some o) all) (take (length rows - 1) (drop 1 rows)) → r ≡ in_brackets kinds xs rows all o
 unfolding in_brackets
 occurrence_says_lem kinds xs rows all o r e = e ∙ ap (λ (l : List Entry). rows_say kinds xs l (take (length rows - 1) (drop 1 rows))) (chosen_one o all)
 
@@ -658,7 +658,7 @@ module _ (xs rows values : List ℕ) (ends : List ℤ) (card cells : List ℕ) (
         brackets_less a f = omega (arith, f.less, chain_less card cells spans inv.ready.keeps i n inv.choosing.on l b be)
 
       module _ (q : ℕ) (qe : q ≡ get_or cells (entry_cell (n - 1) + 1) 0) (r : Bool)
-          (y : r ≡ rows_say (kinds_in cells) xs (chosen_of (record { all = false; occurrence = q }) (entries_of card)) (take (length rows - 1) (drop 1 rows))) where
+          (y : r ≡ rows_say (kinds_in cells) xs (chosen_of (Some q) (entries_of card)) (take (length rows - 1) (drop 1 rows))) where
         said : r ≡ says q
         said = occurrence_says_lem (kinds_in cells) xs rows (entries_of card) q r y
 

@@ -10,9 +10,8 @@ use Rattle.syntax.specs.declared.FoundValue.{FoundValue}
 use Rattle.kind.specs.Table.{meaning_of}
 use Rattle.kind.specs.Readable.{is_true}
 use Rattle.kind.specs.declared.Meaning.{Meaning}
-use Rattle.judge.specs.Sets.{values_at, of_occurrence, keep, counts}
+use Rattle.judge.specs.Sets.{Chosen, values_at, of_occurrence, keep, counts}
 use Rattle.judge.specs.Verdicts.{text_counts, some_says, says_of, joined}
-use Rattle.judge.specs.declared.Chosen.{Chosen}
 use Rattle.rows.specs.Expression.{Expression, probing, choosing, joining, negating}
 use Rattle.rows.specs.Cells.{probe_of, row_of, stated}
 use Rattle.rows.specs.Shapes.{value_in}

@@ -172,10 +172,7 @@ fn bracket_says(
         let mut next = next_text(filter, card, cells, spans, chosen, asked, from);
         while next > 0 {
             let e = next - 1;
-            let own = Chosen {
-                all: false,
-                occurrence: occurrence_of(cells, e),
-            };
+            let own = Some(occurrence_of(cells, e));
             if rows_say(
                 filter,
                 &rows[1..],

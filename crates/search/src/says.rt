@@ -55,10 +55,7 @@ fn text_says(card: &[u8], index: u8, kind: u8, split: usize, text: &[u8]) -> boo
     }
     let asked = asked_of(kind, text);
     let skip = asked.skip;
-    let every = Chosen {
-        all: true,
-        occurrence: 0,
-    };
+    let every: Chosen = None;
     judge::says_of(
         card,
         every,

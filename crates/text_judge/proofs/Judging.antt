@@ -19,8 +19,7 @@ use Rattle.syntax.specs.Reader.{Parsed, parsed, unparsed}
 use Rattle.kind.specs.Table.{meaning_of}
 use Rattle.kind.specs.Readable.{is_true}
 use Rattle.kind.specs.declared.Meaning.{Meaning}
-use Rattle.judge.specs.Sets.{lookup, values_at, counts, chosen_of, of_occurrence, keep}
-use Rattle.judge.specs.declared.Chosen.{Chosen}
+use Rattle.judge.specs.Sets.{Chosen, lookup, values_at, counts, chosen_of, of_occurrence, keep}
 use Rattle.judge.proofs.Meaning.{says_some}
 use Rattle.judge.proofs.Occurrences.{chosen_one, occurrence_whole}
 use Rattle.filter.specs.Walks.{answer_of}
@@ -64,10 +63,10 @@ module _ (ps : List Parameter) (c : ℕ) (es : List Entry) where
 -- ---- the filter in square brackets
 
 -- judging what is in the brackets for one occurrence
-pub judged_occurrence : (ps : List Parameter) (c o : ℕ) (es : List Entry) (g : Parsed) (j : Judged) → j ≡ answer_of Judged.Done Judged.Nothing (judging true ps c (chosen_of (record { all = false; occurrence = o }) es)) g
+pub judged_occurrence : (ps : List Parameter) (c o : ℕ) (es : List Entry) (g : Parsed) (j : Judged) → j ≡ answer_of Judged.Done Judged.Nothing (judging true ps c (chosen_of (Some o) es)) g
     → judged_says j ≡ parsed_says ps c (of_occurrence o es) g
 unfolding answer_of
-judged_occurrence ps c o es (parsed q f) j e = ap judged_says e ∙ judging_is ps c (chosen_of (record { all = false; occurrence = o }) es) f ∙ ap (λ (l : List Entry). filter_says ps c l f) (chosen_one o es)
+judged_occurrence ps c o es (parsed q f) j e = ap judged_says e ∙ judging_is ps c (chosen_of (Some o) es) f ∙ ap (λ (l : List Entry). filter_says ps c l f) (chosen_one o es)
 judged_occurrence ps c o es unparsed j e = ap judged_says e
 
 -- entry by entry is by the set of the entries that the filter chooses
@@ -107,7 +106,7 @@ member_is ps c es k p b q f t = go (lookup ps (enter ps c b) t.path)
     go None = refl
 
 -- as the code judges one occurrence
-pub chosen_judged : (ps : List Parameter) (c o : ℕ) (es : List Entry) (g : Parsed) (j : Judged) (u r : Bool) → j ≡ answer_of Judged.Done Judged.Nothing (judging true ps c (chosen_of (record { all = false; occurrence = o }) es)) g
+pub chosen_judged : (ps : List Parameter) (c o : ℕ) (es : List Entry) (g : Parsed) (j : Judged) (u r : Bool) → j ≡ answer_of Judged.Done Judged.Nothing (judging true ps c (chosen_of (Some o) es)) g
     → r ≡ judged_says j → u ≡ true → r ≡ (u && parsed_says ps c (of_occurrence o es) g)
 chosen_judged ps c o es g j u r e h i = rw i (h ∙ judged_occurrence ps c o es g j e)
 

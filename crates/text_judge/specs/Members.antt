@@ -9,9 +9,8 @@ use Rattle.syntax.specs.Reader.{Parsed, parsed, unparsed}
 use Rattle.kind.specs.Table.{meaning_of}
 use Rattle.kind.specs.Readable.{is_true}
 use Rattle.kind.specs.declared.Meaning.{Meaning}
-use Rattle.judge.specs.Sets.{lookup, counts, of_occurrence}
+use Rattle.judge.specs.Sets.{Chosen, lookup, counts, of_occurrence}
 use Rattle.judge.specs.Verdicts.{text_counts, some_says, filter_says}
-use Rattle.judge.specs.declared.Chosen.{Chosen}
 use Rattle.text_judge.specs.declared.Judged.{Judged}
 
 -- what the filter that was parsed says, and no where there is none

@@ -120,10 +120,7 @@ fn entry_chosen(
     ensures { result ≡ (counts && parsed_says (parameters_of sheet.now) spot.bundle (of_occurrence occurrence (entries_of card.now)) (filter_at spot.levels filter.now spot.close spot.at)) }
 {
     if counts {
-        let chosen = Chosen {
-            all: false,
-            occurrence,
-        };
+        let chosen = Some(occurrence);
         return judged_says(judge_filter(true, sheet, card, chosen, filter, spot));
     }
     false

@@ -4,8 +4,8 @@ use mathlib.Core.Path.{refl}
 use Rattle.query.proofs.Holding.{holding_starts, holding_part, holding_room, holding_end, holding_few, holding_less, holding_again, holding_ends}
 use Rattle.query.proofs.query.keep_pair.Goals as goal
 
-pub loop-more-init : goal.loop-more-init
-loop-more-init c = (search (holding_starts, rules), refl)
+pub loop-next-init : goal.loop-next-init
+loop-next-init c = (search (holding_starts, rules), refl)
 
 pub slice_bounds-next_alternative-count : goal.slice_bounds-next_alternative-count
 slice_bounds-next_alternative-count c = search (holding_part, rules)
@@ -19,11 +19,11 @@ overflow_add-end c = search (holding_end, rules)
 pub push-rows-requires : goal.push-rows-requires
 push-rows-requires c = search (holding_few, rules)
 
-pub loop-more-smaller : goal.loop-more-smaller
-loop-more-smaller c = search (holding_less, rules)
+pub loop-next-smaller : goal.loop-next-smaller
+loop-next-smaller c = search (holding_less, rules)
 
-pub loop-more-preserved : goal.loop-more-preserved
-loop-more-preserved c = (search (holding_again, rules), search rules)
+pub loop-next-preserved : goal.loop-next-preserved
+loop-next-preserved c = (search (holding_again, rules), search rules)
 
 pub returns : goal.returns
 returns c = search (holding_ends, rules)

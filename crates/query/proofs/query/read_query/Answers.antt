@@ -4,14 +4,14 @@ use mathlib.Core.Path.{refl}
 use Rattle.query.proofs.Passing.{pass-starts, pass-within, pass-less, pair_in_value, pass_used, pair_in_bytes, pass_bad, pass_until, pass-value, pass_count, pass_room, pass_few, pass-next, pass-ends}
 use Rattle.query.proofs.query.read_query.Goals as goal
 
-pub loop-more-init : goal.loop-more-init
-loop-more-init c = (search (pass-starts, rules), (refl, search rules))
+pub loop-lengths-init : goal.loop-lengths-init
+loop-lengths-init c = (search (pass-starts, rules), (refl, search rules))
 
 pub first_from-end-requires : goal.first_from-end-requires
 first_from-end-requires c = search (pass-within, rules)
 
-pub slice_bounds-read_pair-count-in-loop-more : goal.slice_bounds-read_pair-count-in-loop-more
-slice_bounds-read_pair-count-in-loop-more c = search (pass_used, rules)
+pub slice_bounds-read_pair-count-in-loop-lengths : goal.slice_bounds-read_pair-count-in-loop-lengths
+slice_bounds-read_pair-count-in-loop-lengths c = search (pass_used, rules)
 
 pub read_pair-read-requires : goal.read_pair-read-requires
 read_pair-read-requires c = search (pair_in_value, pair_in_bytes, rules)
@@ -34,11 +34,12 @@ keep_pair-held-requires-clause-start_in_bounds c = search (pass_room, rules)
 pub keep_pair-held-requires-clause-value_bound : goal.keep_pair-held-requires-clause-value_bound
 keep_pair-held-requires-clause-value_bound c = search (pass_few, rules)
 
-pub loop-more-smaller : goal.loop-more-smaller
-loop-more-smaller c = search (pass-less, rules)
+pub loop-lengths-smaller : goal.loop-lengths-smaller
+loop-lengths-smaller c = search (pass-less, rules)
 
-pub loop-more-preserved : goal.loop-more-preserved
-loop-more-preserved c = (search (pass-next, rules), (search rules, search rules))
+pub loop-lengths-preserved : goal.loop-lengths-preserved
+loop-lengths-preserved c = (search (pass-next, rules), (search rules, search rules))
 
-pub returns : goal.returns
-returns c = search (pass-ends, rules)
+pub returns-then-end-text : goal.returns-then-end-text
+returns-then-end-text c =
+    pass-ends c.loop-lengths.invariant.0 _ c.first_from-end.ensures c.loop-lengths.invariant.1.0 _ _ _ _ c.read_pair-read.ensures c.in-Some.is (search rules) _ _ c.keep_pair-held.ensures c.if-end-text.true (search rules)
