@@ -8,7 +8,7 @@
 use Rattle.std.specs.Prelude.{Err, Ok, Result, ⊤}
 use Prim.Native.Nat.{ℕ}
 use native.Mathlib.Omega.{arith}
-use mathlib.Core.Path.{◌≡◌, refl, ap, sym, ◌∙◌, fun_ext}
+use mathlib.Core.Path.{◌≡◌, refl, ap, sym, ◌∙◌, fun_ext, subst}
 use mathlib.Core.Bool.{Bool}
 use mathlib.Core.List.{List}
 use lib.ListN.{length}
@@ -125,7 +125,7 @@ module _ (sheet text bytes : List ℕ) (w : read_sheet sheet ≡ Validity.WellFo
 
 -- the answer of check, as the rows are passed
 passed_answer : (f : Result ⊤ Refusal) (rows : Rows) → counted_answer (counted_rows (rows_passed f rows)) ≡ summary_answer (record { tests = rows.count; first = f })
-unfolding counted_answer
+unfolding counted_answer summary_answer refusal_answer
 passed_answer (Ok tt) rows = refl
 passed_answer (Err r) rows = refl
 
@@ -140,7 +140,7 @@ rows_read sheet text bytes w r rows t o s e =
     let (q, of) = accepted_rows rows t o in
     let f : Result ⊤ Refusal = first_alternative_fault (parameters_of sheet) (alternatives_in bytes rows) in
     let answered : counted_answer (counted_rows s) ≡ check_search_answer sheet text =
-        ap (λ (x : Result Rows Refusal). counted_answer (counted_rows x)) e ∙ passed_answer f rows ∙ sym (rows_answer_lem sheet text bytes w rows q of) in
+    ap (λ (x : Result Rows Refusal). counted_answer (counted_rows x)) e ∙ passed_answer f rows ∙ sym (rows_answer_lem sheet text bytes w rows q of) in
     record {
       answers = answered;
       passes = λ kept h.

@@ -12,15 +12,14 @@ use Rattle.query.specs.declared.Rows.{Rows}
 use Rattle.answer.specs.Searching.{search_question}
 use Rattle.searching.specs.SearchPassing.{ReadsRows, rows_question}
 use Rattle.selecting.specs.Selecting.{Selects}
-use Rattle.searching.specs.declared.SearchRead.{SearchRead}
 use Rattle.searching.proofs.SearchPassing.{question_stopped, asks}
 use Rattle.selecting.proofs.Selecting.{select_stopped}
 
-module _ (sheet text bytes : List ℕ) (r : SearchRead) (read : ReadsRows sheet text bytes r) where
-  pub select_search_refused : (cards list : List ℕ) (f : Refusal) → r.checked ≡ Err f → Selects (search_question sheet text) cards list (Err f) list
+module _ (sheet text bytes : List ℕ) (r : Result Rows Refusal) (read : ReadsRows sheet text bytes r) where
+  pub select_search_refused : (cards list : List ℕ) (f : Refusal) → r ≡ Err f → Selects (search_question sheet text) cards list (Err f) list
   select_search_refused cards list f h = select_stopped (search_question sheet text) cards list f (question_stopped sheet text bytes r read f h)
 
-  module _ (n : ℕ) (h' : r.checked ≡ Ok n) where
-    pub search_selects : (b t : List ℕ) (rows : Rows) (cards list : List ℕ) (s : Result ℕ Refusal) (exit : List ℕ) → b ≡ sheet → t ≡ bytes → rows ≡ r.rows
+  module _ (read_rows : Rows) (h' : r ≡ Ok read_rows) where
+    pub search_selects : (b t : List ℕ) (rows : Rows) (cards list : List ℕ) (s : Result ℕ Refusal) (exit : List ℕ) → b ≡ sheet → t ≡ bytes → rows ≡ read_rows
         → Selects (found (rows_question (parameters_of b) t rows)) cards list s exit → Selects (search_question sheet text) cards list s exit
-    search_selects b t rows cards list s exit e f h g = subst (λ (a : Step Question). Selects a cards list s exit) (sym (asks sheet text bytes r read n h')) (rw (← e, ← f, ← h) g)
+    search_selects b t rows cards list s exit e f h g = subst (λ (a : Step Question). Selects a cards list s exit) (sym (asks sheet text bytes r read read_rows h')) (rw (← e, ← f, ← h) g)

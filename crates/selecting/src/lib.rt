@@ -67,20 +67,15 @@ fn select_cards<A: Asking>(asking: &mut A, cards: &[u8], list: &mut [u32]) -> Re
     }
     // a refusal writes nothing, so the numbers wait here until the last card is judged
     let mut buffer = [0u32; 128];
-    let gathered = gather(asking, cards, &mut buffer);
-    match gathered {
-        Ok(matches) => {
-            if matches > list.len() {
-                return Err(Refusal {
-                    reason: Reason::ShortList,
-                    place: matches,
-                });
-            }
-            write(&buffer[0..matches], list);
-            Ok(matches)
-        }
-        Err(refusal) => Err(refusal),
+    let matches = gather(asking, cards, &mut buffer)?;
+    if matches > list.len() {
+        return Err(Refusal {
+            reason: Reason::ShortList,
+            place: matches,
+        });
     }
+    write(&buffer[0..matches], list);
+    Ok(matches)
 }
 
 // Select by the rows of the filter, which are written once for the run.
@@ -93,14 +88,9 @@ fn select_by_rows(
     ensures { Selects (filter_question sheet.now filter.now) cards.now list.old result list.new }
 {
     let mut cells = [0u32; 1024];
-    let filled = fill(sheet, filter, &mut cells);
-    match filled {
-        Ok(n) => {
-            let mut asking = ByRows::new(sheet, filter, &cells[0..n]);
-            select_cards(&mut asking, cards, list)
-        }
-        Err(refusal) => Err(refusal),
-    }
+    let filled = fill(sheet, filter, &mut cells)?;
+    let mut asking = ByRows::new(sheet, filter, &cells[0..filled]);
+    select_cards(&mut asking, cards, list)
 }
 
 // Select by the filter's text, which is read again for each card.
@@ -112,14 +102,9 @@ fn select_by_text(
 ) -> Result<usize, Refusal>
     ensures { Selects (filter_question sheet.now filter.now) cards.now list.old result list.new }
 {
-    let checked = check(sheet, filter);
-    match checked {
-        Ok(_) => {
-            let mut asking = ByText::new(sheet, filter);
-            select_cards(&mut asking, cards, list)
-        }
-        Err(refusal) => Err(refusal),
-    }
+    check(sheet, filter)?;
+    let mut asking = ByText::new(sheet, filter);
+    select_cards(&mut asking, cards, list)
 }
 
 // Writes the record numbers of the cards that match into the list, from its first cell, in card order and with repeats, and
@@ -149,14 +134,7 @@ pub fn select_search(
     ensures { Selects (search_question sheet.now text.now) cards.now list.old result list.new }
 {
     let mut bytes = [0u8; 1024];
-    let read = read_search(sheet, text, &mut bytes);
-    let rows = read.rows;
-    let checked = read.checked;
-    match checked {
-        Ok(_) => {
-            let mut asking = BySearch::new(sheet, &bytes, rows);
-            select_cards(&mut asking, cards, list)
-        }
-        Err(refusal) => Err(refusal),
-    }
+    let rows = read_search(sheet, text, &mut bytes)?;
+    let mut asking = BySearch::new(sheet, &bytes, rows);
+    select_cards(&mut asking, cards, list)
 }

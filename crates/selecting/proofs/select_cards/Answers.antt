@@ -1,5 +1,6 @@
 -- `selecting::select_cards` meets its contract, by the laws of any question. Assumes nothing.
 use borrow.Author.Rules.{rules}
+use Rattle.std.proofs.lemmas.Result.{err_from_is_err_and}
 use Rattle.selecting.proofs.Selecting.{found_parted, found-over, select-card_refused, select_short, select_writes}
 use Rattle.selecting.proofs.select_cards.Goals as goal
 
@@ -10,10 +11,10 @@ pub returns-then-cards-gt65536 : goal.returns-then-cards-gt65536
 returns-then-cards-gt65536 g c = search (found-over, rules)
 
 pub returns-then-matches-list : goal.returns-then-matches-list
-returns-then-matches-list g c = search (select_short, rules)
+returns-then-matches-list g c = search (select_short, c.in_ok-matches.was, rules)
 
-pub returns-else-matches-list : goal.returns-else-matches-list
-returns-else-matches-list g c = search (select_writes, rules)
+pub returns-in_err-matches : goal.returns-in_err-matches
+returns-in_err-matches g c = let p = err_from_is_err_and c.from_residual.result c.from_residual.ensures.1 in rw (p.1, p.2) (search (select-card_refused, c.in_err-matches.was, rules))
 
-pub returns-in-Err : goal.returns-in-Err
-returns-in-Err g c = search (select-card_refused, rules)
+pub returns : goal.returns
+returns g c = search (select_writes, c.in_ok-matches.was, rules)
