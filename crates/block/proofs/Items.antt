@@ -179,7 +179,7 @@ items-length make zero b p = refl
 items-length make (suc k) b p = ap suc (items-length make k b (next b p))
 
 module _ {X : Type 0} (make : ℕ → ℕ → List ℕ → X) (b : List ℕ) (p left : ℕ) where
-  items_none : left ≤ 0 → items make left b p ≡ []
+  pub items_none : left ≤ 0 → items make left b p ≡ []
   unfolding items
   items_none h = let e : left ≡ 0 = omega arith in ap (λ (n : ℕ). items make n b p) e
 

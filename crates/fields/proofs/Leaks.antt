@@ -21,6 +21,7 @@ use Rattle.text.specs.Fold.{is_capital, fold_byte, fold_from, fold_text}
 use Rattle.sheet.specs.Sheet.{Parameter, parameter}
 use Rattle.sheet.specs.Encode.{WellFormedSheet}
 use Rattle.sheet.specs.Find.{found_at, find_from, find, enter}
+use Rattle.sheet.proofs.Listed.{found_same}
 use Rattle.sheet.specs.Trial.{trial_parameters, trial_sheet, bundle_parameters, bundle_sheet}
 use Rattle.sheet.proofs.Sheets.{sheet_reads_iff}
 use Rattle.sheet.proofs.Trial.{trial_sheet_reads, bundle_sheet_reads}
@@ -45,7 +46,7 @@ present_means : (ps : List Parameter) (w : WellFormedSheet ps) (path : Path) (v 
     → LacksMeaning ps [] (presence path v) → ⊥
 unfolding values_at
 present_means ps w path v i k e n s (not_on_sheet none) = none i k ((names_iff ps w path i k).0 e)
-present_means ps w path v i k e n s (bare_bundle {i = j} named) = let other = (names_iff ps w path j bundle_kind).1 named in let same : k ≡ bundle_kind = cc in n same
+present_means ps w path v i k e n s (bare_bundle {i = j} named) = let other = (names_iff ps w path j bundle_kind).1 named in n (found_same (sym e ∙ other)).1
 present_means ps w path v i k e n s (neither _ other) = other s
 present_means ps w path v i k e n s (lacks_operator _ filled _) = filled refl
 present_means ps w path v i k e n s (unreadable _ filled _) = filled refl

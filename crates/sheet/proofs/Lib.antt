@@ -1,5 +1,5 @@
 -- The laws of sheets.
-pub mod Parameters
+pub mod Rules
 pub mod Read
 pub mod Search
 pub mod Filling

@@ -2,7 +2,7 @@
 -- Assumes nothing.
 use Prim.Native.Nat.{ℕ, ◌≤◌}
 use native.Mathlib.Omega.{arith}
-use mathlib.Core.Path.{◌≡◌, refl, ap, sym, ◌∙◌, subst}
+use mathlib.Core.Path.{◌≡◌, refl, sym, ◌∙◌}
 use mathlib.Core.Bool.{Bool, true, false, ◌&&◌}
 use mathlib.Core.List.{List}
 use lib.ListN.{length, get_or}
@@ -11,10 +11,9 @@ use Rattle.base.proofs.Tests.{and_left, and_right}
 use Rattle.block.specs.Items.{has_marks, has_layout, has_either, items, Walk}
 use Rattle.block.specs.declared.Validity.TheVariants.{WellFormed}
 use Rattle.block.proofs.Contents.{Held}
-use Rattle.block.proofs.Invariants.{Visited}
-use Rattle.block.proofs.Items.{either_own, either_form, layout_count, items-length, walk_start, visited_start}
+use Rattle.block.proofs.Items.{either_own, either_form, layout_count, items-length, walk_start}
 use Rattle.block.proofs.Readings.{reading_iff}
-use Rattle.sheet.specs.Sheet.{Parameter, parameter, parameter_count, parameters_of, are_parameters, distinct, have_parents, are_right, sheet_layout, read_sheet}
+use Rattle.sheet.specs.Sheet.{parameter, parameter_count, parameters_of, are_parameters, distinct, have_parents, are_right, sheet_layout, read_sheet}
 use Rattle.sheet.specs.Encode.{sheet_first}
 
 -- ---- what the tests decide
@@ -84,10 +83,6 @@ module _ (b : List ℕ) (h : read_sheet b ≡ WellFormed) where
   unfolding read_sheet parameters_of parameter_count
   sheet_held bytes = record { bytes = bytes; sealed = ((reading_iff b (sheet_layout b)).0 h).0; layout = block_layout; same = refl }
 
--- n parameters are to come from the first on, as many as `parameter_count` answers
-pub parameters_start : {A : Type 0} (G : List Parameter → A) (b : List ℕ) (n : ℕ) (answer : A) → n ≡ parameter_count b → read_sheet b ≡ WellFormed
-    → answer ≡ G (parameters_of b) → Visited parameter G answer b 2 n
-unfolding parameters_of parameter_count
-parameters_start G b n answer e h a =
-    let walk = subst (Walk b 2) (sym e) (walk_start b (get_or b 0 0) 1 32 (block_layout b h) (sheet_length b h) (omega arith)) in
-    visited_start parameter G b 2 n answer walk (a ∙ ap (λ (k : ℕ). G (items parameter k b 2)) (sym e))
+-- a walk over the parameters can start
+pub sheet_walk : (b : List ℕ) → read_sheet b ≡ WellFormed → Walk b 2 (get_or b 1 0)
+sheet_walk b h = walk_start b (get_or b 0 0) 1 32 (block_layout b h) (sheet_length b h) (omega arith)

@@ -21,7 +21,7 @@ use Rattle.block.proofs.Seal.{seal-body}
 use Rattle.base.specs.Kinds.{bundle_kind}
 use Rattle.sheet.specs.Sheet.{Parameter, parameter, parameter_count, parameters_of, are_right, sheet_layout, read_sheet}
 use Rattle.sheet.specs.Encode.{sheet_first, parameter_bytes, sheet_body, encode_sheet, ValueKind, WellFormedParameter, HasParent, at_top, in_bundle, WellFormedSheet, PlainParameter, SheetForm, ReadsAsSheet}
-use Rattle.sheet.proofs.Parameters.{FormOf, parameters_iff, distinct_iff, parents_iff}
+use Rattle.sheet.proofs.Rules.{FormOf, parameters_iff, distinct_iff, parents_iff}
 use Rattle.sheet.proofs.Read.{sheet_parameters, sheet_names, sheet_parents, sheet_count, sheet_held}
 
 -- ---- a parameter

@@ -1,56 +1,55 @@
 -- Laws of finding a parameter: what the next of a list decides.
 -- Assumes nothing.
-use Rattle.std.specs.Prelude.{None}
-use Prim.Native.Nat.{ℕ, suc, ◌+◌, ◌-◌}
+use Rattle.std.specs.Prelude.{Option, Some, None}
+use Prim.Native.Nat.{ℕ, zero, suc, ◌+◌}
 use native.Mathlib.Numerals.{add-one}
-use native.Mathlib.Omega.{arith}
 use mathlib.Core.Path.{◌≡◌, refl, ap, sym, ◌∙◌}
-use mathlib.Core.Bool.{Bool, true, false, ◌&&◌}
+use mathlib.Core.Bool.{true, false, ◌&&◌, and-false}
 use lib.Dec.{eqb}
 use borrow.Author.Tests.{eq-eqb, ne_eqb}
 use mathlib.Core.List.{List, [], ◌∷◌}
+use Rattle.std.specs.Option.{option_map, option_map_or}
+use Rattle.std.specs.List.{slice_get}
 use Rattle.base.specs.Lists.{equal}
-use Rattle.sheet.specs.Sheet.{Parameter, parameter, kind_at}
+use Rattle.sheet.specs.Sheet.{Parameter, kind_at}
+use Rattle.sheet.specs.Coming.{read}
+use Rattle.sheet.specs.declared.parameter.Parameter.{Parameter as Span}
+use Rattle.sheet.specs.declared.Found.{Found}
 use Rattle.sheet.specs.Find.{found_at, find_from, find}
 
 -- ---- by name
 
-pub find-whole : (c : ℕ) (n : List ℕ) (ps : List Parameter) → find c n ps ≡ find_from 0 c n ps
+pub find-start : (c : ℕ) (n : List ℕ) {xs ps : List Parameter} → xs ≡ ps → find_from 0 c n xs ≡ find c n ps
 unfolding find
-find-whole c n ps = refl
+find-start c n e = ap (find_from 0 c n) e
 
-module _ (i c : ℕ) (n : List ℕ) (k d : ℕ) (m : List ℕ) (ps : List Parameter) (same : Bool) (j : same ≡ equal m n) (r : Bool) (e : r ≡ (eqb d c && same)) where
-  pub find-next : r ≡ false → find_from i c n (parameter k d m ∷ ps) ≡ find_from (i + 1) c n ps
+-- the parameters to come decide, the first of which has the index i
+module _ (i c : ℕ) (n : List ℕ) (xs : List Parameter) (answer : Option Found) (inv : find_from i c n xs ≡ answer) where
+  module _ (p : Parameter) (ps : List Parameter) (e : xs ≡ p ∷ ps) where
+    pub find-here : p.bundle ≡ c → equal p.name n ≡ true → found_at i p.kind ≡ answer
+    unfolding find_from
+    find-here b same = sym (ap (find_from i c n) e ∙ rw (eq-eqb p.bundle c b, same)) ∙ inv
+
+    passed : (eqb p.bundle c && equal p.name n) ≡ false → find_from (i + 1) c n ps ≡ answer
+    unfolding find_from
+    passed other = sym (ap (find_from i c n) e ∙ rw (other, add-one i)) ∙ inv
+
+    pub find_other_bundle : (p.bundle ≡ c → ⊥) → find_from (i + 1) c n ps ≡ answer
+    find_other_bundle b = passed (rw (ne_eqb p.bundle c b))
+
+    pub find_other_name : equal p.name n ≡ false → find_from (i + 1) c n ps ≡ answer
+    find_other_name other = passed (rw (other, and-false))
+
+  pub find_end : xs ≡ [] → None ≡ answer
   unfolding find_from
-  find-next f = rw (add-one i, ← j, sym e ∙ f)
-
-  pub find-here : r ≡ true → found_at i k ≡ find_from i c n (parameter k d m ∷ ps)
-  unfolding find_from
-  find-here t = rw (← j, sym e ∙ t)
-
-pub find_end : (i c : ℕ) (n : List ℕ) → None ≡ find_from i c n []
-unfolding find_from
-find_end i c n = refl
+  find_end e = sym (ap (find_from i c n) e) ∙ inv
 
 -- ---- the kind by index, 0 past the last
 
-module _ (i k d : ℕ) (m : List ℕ) (ps : List Parameter) where
-  pub kind_next : (i ≡ 0 → ⊥) → kind_at i (parameter k d m ∷ ps) ≡ kind_at (i - 1) ps
-  unfolding kind_at
-  kind_next n = let e : i ≡ suc (i - 1) = omega arith in ap (λ (j : ℕ). kind_at j (parameter k d m ∷ ps)) e
-
-  pub kind_here : i ≡ 0 → k ≡ kind_at i (parameter k d m ∷ ps)
-  unfolding kind_at
-  kind_here e = rw e
-
-pub kind_end : (i : ℕ) → ◌≡◌ {A = ℕ} 0 (kind_at i [])
+pub kind_got : (ps : List Parameter) (i : ℕ) (r : Option Span) → option_map read r ≡ slice_get ps i → option_map_or (λ (p : Span). p.kind) r 0 ≡ kind_at i ps
 unfolding kind_at
-kind_end i = refl
-
--- the name and the bundle together
-module _ (a c : ℕ) (same : Bool) where
-  pub named_here : a ≡ c → same ≡ (eqb a c && same)
-  named_here e = rw (eq-eqb a c e)
-
-  pub named_not : (a ≡ c → ⊥) → false ≡ (eqb a c && same)
-  named_not n = rw (ne_eqb a c n)
+kind_got [] i None e = refl
+kind_got [] i (Some p) e = cc
+kind_got (q ∷ ps) zero None e = cc
+kind_got (q ∷ ps) zero (Some p) e = let same : read p ≡ q = cc in ap (λ (x : Parameter). x.kind) same
+kind_got (q ∷ ps) (suc i) r e = kind_got ps i r e

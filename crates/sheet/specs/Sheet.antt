@@ -6,10 +6,9 @@ use Rattle.base.specs.Kinds.{string, period, bundle_kind}
 use Rattle.base.specs.Between.{between}
 use Rattle.base.specs.Names.{is_name}
 use Rattle.block.specs.Seal.{check}
-use Rattle.block.specs.Items.{has_marks, has_either, items, ItemStep}
+use Rattle.block.specs.Items.{has_marks, has_either, items}
 use Rattle.block.specs.Readings.{reading}
 use Rattle.block.specs.declared.Validity.{Validity}
-use Rattle.sheet.specs.declared.Parameter.{Parameter as Span}
 
 -- a parameter: its kind (1 string, 2 number, 3 date, 4 token, 5 reference, 6 period, 7 bundle), its bundle and its name; 02: the bundle is
 -- "0 or the place plus 1 of the parameter's bundle"
@@ -83,7 +82,3 @@ sheet_layout b = has_either 0x50 0x51 1 32 b && are_right (has_marks (get_or b 0
 -- what the bytes are, as a sheet
 unfoldable pub read_sheet : List ℕ → Validity
 read_sheet b = reading (check b) (sheet_layout b)
-
--- r says where the parameter at `at` stands, with `left` parameters to come
-abbrev pub ParameterAt : List ℕ → (at left : ℕ) → Span → Type 0
-ParameterAt b at left r = ItemStep parameter b at left r.kind r.bundle r.start r.end

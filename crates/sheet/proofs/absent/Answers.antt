@@ -1,17 +1,18 @@
--- `sheet::absent` meets its contract: the parameters to come decide. Assumes nothing.
+-- `sheet::absent` meets its contract: the closure is the definition's test. Assumes nothing.
+use mathlib.Core.Bool.{not}
+use mathlib.Core.Path.{refl, ◌∙◌}
 use borrow.Author.Rules.{rules}
-use Rattle.block.proofs.Items.{visited_start, visited_next, visited_decides, visited_end}
-use Rattle.sheet.proofs.Parameters.{absent-next, absent_not, absent_end}
+use Rattle.std.proofs.lemmas.Iterator.Consumers.{YieldsList-from_first}
+use Rattle.std.proofs.lemmas.Iterator.Search.{all_from_yields_List}
+use Rattle.base.specs.Lists.{equal}
+use Rattle.base.proofs.Lists.{pointwise_equal}
+use Rattle.sheet.specs.Sheet.{Parameter, clashes}
+use Rattle.sheet.specs.Coming.{read, coming}
+use Rattle.sheet.proofs.Rules.{absent_all}
 use Rattle.sheet.proofs.absent.Goals as goal
 
-pub loop-left-init : goal.loop-left-init
-loop-left-init c = search (visited_start, rules)
-
-pub returns-then-clashes : goal.returns-then-clashes
-returns-then-clashes c = search (visited_decides, absent_not, rules)
-
-pub loop-left-preserved : goal.loop-left-preserved
-loop-left-preserved c = search (visited_next, absent-next, rules)
-
 pub returns : goal.returns
-returns c = search (visited_end, absent_end, rules)
+returns c =
+    all_from_yields_List (λ (p : Parameter). not (clashes p.bundle c.args.bundle (equal p.name c.args.name.now))) c.all.new.self _ _ c.all.ensures.ran
+    (YieldsList-from_first read coming _ refl) (λ x b q k. search (pointwise_equal, rules))
+    ∙ absent_all c.args.bundle c.args.name.now (coming c.args.parameters)

@@ -1,18 +1,14 @@
--- `sheet::are_parameters` meets its contract: the parameters to come decide. Assumes nothing.
-use borrow.Author.Tests.{not-true, not-false}
+-- `sheet::are_parameters` meets its contract: the closure is the definition's test. Assumes nothing.
+use mathlib.Core.Path.{refl, ◌∙◌}
 use borrow.Author.Rules.{rules}
-use Rattle.block.proofs.Items.{visited_start, visited_next, visited_decides, visited_end}
-use Rattle.sheet.proofs.Parameters.{are_next, are_not, are_end}
+use Rattle.std.proofs.lemmas.Iterator.Consumers.{YieldsList-from_first}
+use Rattle.std.proofs.lemmas.Iterator.Search.{all_from_yields_List}
+use Rattle.sheet.specs.Sheet.{is_parameter}
+use Rattle.sheet.specs.Coming.{read, coming}
+use Rattle.sheet.proofs.Rules.{are_all}
 use Rattle.sheet.proofs.are_parameters.Goals as goal
 
-pub loop-left-init : goal.loop-left-init
-loop-left-init c = search (visited_start, rules)
-
-pub returns-then-not-is_parameter : goal.returns-then-not-is_parameter
-returns-then-not-is_parameter c = search (visited_decides, are_not, not-true, rules)
-
-pub loop-left-preserved : goal.loop-left-preserved
-loop-left-preserved c = search (visited_next, are_next, not-false, rules)
-
 pub returns : goal.returns
-returns c = search (visited_end, are_end, rules)
+returns c =
+    all_from_yields_List (is_parameter c.args.marked) c.all.new.self _ _ c.all.ensures.ran (YieldsList-from_first read coming _ refl) (λ x b q k. search rules)
+    ∙ are_all c.args.marked (coming c.args.parameters)

@@ -1,18 +1,13 @@
 -- `sheet::distinct` meets its contract: the parameters to come decide. Assumes nothing.
-use borrow.Author.Tests.{not-true, not-false}
-use borrow.Author.Rules.{rules}
-use Rattle.block.proofs.Items.{visited_start, visited_next, visited_decides, visited_end}
-use Rattle.sheet.proofs.Parameters.{distinct-next, distinct_not, distinct_end}
+use mathlib.Core.Path.{sym, ◌∙◌}
+use Rattle.sheet.proofs.Rules.{distinct-next, distinct_not, distinct_end}
 use Rattle.sheet.proofs.distinct.Goals as goal
 
-pub loop-left-init : goal.loop-left-init
-loop-left-init c = search (visited_start, rules)
-
 pub returns-then-not-absent : goal.returns-then-not-absent
-returns-then-not-absent c = search (visited_decides, distinct_not, not-true, rules)
+returns-then-not-absent c = distinct_not _ _ c.loop-p.invariant _ _ c.in-Some.ensures.steps (sym c.absent.ensures ∙ c.if-not-absent.true)
 
-pub loop-left-preserved : goal.loop-left-preserved
-loop-left-preserved c = search (visited_next, distinct-next, not-false, rules)
+pub loop-p-preserved : goal.loop-p-preserved
+loop-p-preserved c = distinct-next _ _ c.loop-p.invariant _ _ c.in-Some.ensures.steps (sym c.absent.ensures ∙ c.if-not-absent.false)
 
 pub returns : goal.returns
-returns c = search (visited_end, distinct_end, rules)
+returns c = distinct_end _ _ c.loop-p.invariant c.in_default.ensures.steps.0

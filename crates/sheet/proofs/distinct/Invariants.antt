@@ -1,11 +1,12 @@
 -- `sheet::distinct` meets its contract: the parameters to come decide. Assumes nothing.
-use Rattle.block.specs.Items.{items}
-use Rattle.block.proofs.Invariants.{Visited}
-use Rattle.sheet.specs.Sheet.{parameter, distinct}
+use mathlib.Core.Path.{◌≡◌}
+use lib.ListN.{length}
+use Rattle.sheet.specs.Sheet.{distinct}
+use Rattle.sheet.specs.Coming.{coming}
 use Rattle.sheet.proofs.distinct.Given as goal
 
-abbrev pub invariant-loop-left : goal.invariant-loop-left
-invariant-loop-left l = Visited parameter distinct (distinct (items parameter l.count l.sheet 2)) l.sheet l.at l.left
+abbrev pub invariant-loop-p : goal.invariant-loop-p
+invariant-loop-p l = distinct (coming l.parameters) ≡ distinct (coming l.fn.parameters)
 
-abbrev pub decreases-loop-left : goal.decreases-loop-left
-decreases-loop-left l = l.left
+abbrev pub decreases-loop-p : goal.decreases-loop-p
+decreases-loop-p l = length (coming l.parameters)

@@ -1,18 +1,30 @@
 -- `sheet::find` meets its contract: the parameters to come decide, the first of which has the index at hand. Assumes nothing.
-use borrow.Author.Rules.{rules}
-use Rattle.block.proofs.Items.{visited_next, visited_decides, visited_end}
-use Rattle.sheet.proofs.Read.{parameters_start}
-use Rattle.sheet.proofs.Search.{find-whole, find-next, find-here, find_end}
+use native.Mathlib.Omega.{arith}
+use mathlib.Core.Path.{sym, ap, ◌∙◌}
+use lib.ListN.{length}
+use Rattle.base.proofs.Lists.{pointwise_equal}
+use Rattle.sheet.specs.Coming.{coming}
+use Rattle.sheet.proofs.Read.{sheet_count}
+use Rattle.sheet.proofs.Search.{find-start, find-here, find_other_bundle, find_other_name, find_end}
 use Rattle.sheet.proofs.find.Goals as goal
+use Rattle.sheet.proofs.find.Goals.{else-p-bundle-via-then-p-bundle+else-eq, else-p-bundle-via-else-p-bundle}
 
-pub loop-left-init : goal.loop-left-init
-loop-left-init c = search (parameters_start, find-whole, rules)
+pub loop-p-init : goal.loop-p-init
+loop-p-init c =
+    let all = ap coming c.into_iter-p-iterator.ensures.into_iter_gives ∙ c.of-p-items.ensures in
+    (omega (arith, sheet_count c.args.sheet.now c.requires, ap length all), find-start _ _ all)
 
-pub returns-then-is_named : goal.returns-then-is_named
-returns-then-is_named c = search (visited_decides, find-here, rules)
+pub returns-then-eq : goal.returns-then-eq
+returns-then-eq c = find-here _ _ _ _ _ c.loop-p.invariant.1 _ _ c.in-Some.ensures.steps c.if-p-bundle.true (sym (pointwise_equal _ _) ∙ sym c.if-eq.ensures)
 
-pub loop-left-preserved : goal.loop-left-preserved
-loop-left-preserved c = search (visited_next, find-next, rules)
+pub loop-p-preserved : goal.loop-p-preserved
+loop-p-preserved c = (
+  omega (arith, c.loop-p.invariant.0, ap length c.in-Some.ensures.steps),
+  elim c.else-p-bundle.branch [
+    | else-p-bundle-via-then-p-bundle+else-eq w ↦ find_other_name _ _ _ _ _ c.loop-p.invariant.1 _ _ c.in-Some.ensures.steps (sym (pointwise_equal _ _) ∙ sym w.if-eq.ensures)
+    | else-p-bundle-via-else-p-bundle w ↦ find_other_bundle _ _ _ _ _ c.loop-p.invariant.1 _ _ c.in-Some.ensures.steps w.if-p-bundle.false
+  ],
+)
 
 pub returns : goal.returns
-returns c = search (visited_end, find_end, rules)
+returns c = find_end _ _ _ _ _ c.loop-p.invariant.1 c.in-None.ensures.steps.0

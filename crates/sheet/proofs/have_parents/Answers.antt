@@ -1,18 +1,15 @@
--- `sheet::have_parents` meets its contract. Assumes nothing.
+-- `sheet::have_parents` meets its contract: the closure is the definition's test. Assumes nothing.
+use mathlib.Core.Path.{refl, ◌∙◌}
 use borrow.Author.Rules.{rules}
-use Rattle.block.proofs.Items.{visited_start, visited_next, visited_decides, visited_end}
-use borrow.Author.Tests.{not-true, not-false}
-use Rattle.sheet.proofs.Parameters.{parents_next, parents_not, parents_end}
+use Rattle.std.proofs.lemmas.Iterator.Consumers.{YieldsList-from_first}
+use Rattle.std.proofs.lemmas.Iterator.Search.{all_from_yields_List}
+use Rattle.sheet.specs.Sheet.{Parameter, has_parent}
+use Rattle.sheet.specs.Coming.{read, coming}
+use Rattle.sheet.proofs.Rules.{parents_all}
 use Rattle.sheet.proofs.have_parents.Goals as goal
 
-pub loop-left-init : goal.loop-left-init
-loop-left-init c = search (visited_start, rules)
-
-pub returns-then-not-has_parent : goal.returns-then-not-has_parent
-returns-then-not-has_parent c = search (visited_decides, parents_not, not-true, rules)
-
-pub loop-left-preserved : goal.loop-left-preserved
-loop-left-preserved c = search (visited_next, parents_next, not-false, rules)
-
 pub returns : goal.returns
-returns c = search (visited_end, parents_end, rules)
+returns c =
+    all_from_yields_List (λ (p : Parameter). has_parent (coming c.args.parameters) p.kind p.bundle) c.all.new.self _ _ c.all.ensures.ran (YieldsList-from_first read coming _ refl)
+    (λ x b q k. search rules)
+    ∙ parents_all (coming c.args.parameters) (coming c.args.parameters)

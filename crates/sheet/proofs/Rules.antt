@@ -1,17 +1,18 @@
--- Laws of parameters: what the code's tests decide, for one parameter and for the next of a list, and that the tests are the rules.
--- The first half has a law for each branch of the code: a test of a list is the test of its first parameter and then that of the rest, so
--- what is left decides. The second half puts the tests into the rules' words, `-there` and `-back` for the two directions: `parameter_iff`
--- by the cases of the kind, `parameters_iff`, `distinct_iff` and `parents_iff` by induction on the list.
+-- Laws of parameters: what the code's tests decide, for the parameters of a list, and that the tests are the rules.
+-- The first half says that a test of a list is the test of each of its parameters. The second half puts the tests into the rules' words,
+-- `-there` and `-back` for the two directions: `parameter_iff` by the cases of the kind, `parameters_iff`, `distinct_iff` and `parents_iff` by
+-- induction on the list.
 -- Assumes nothing.
-use Prim.Native.Nat.{ℕ, ◌-◌, ◌≤◌, ◌<◌}
+use Prim.Native.Nat.{ℕ, ◌-◌, ◌≤◌}
 use native.Mathlib.Omega.{arith}
 use mathlib.Core.Path.{◌≡◌, refl, ap, sym, ◌∙◌}
-use mathlib.Core.Bool.{Bool, true, false, not, ◌&&◌, and-true, and-false, or-true}
+use mathlib.Core.Bool.{Bool, true, false, not, ◌&&◌, and-true, or-true}
 use mathlib.Core.Logic.{◌↔◌, ◌⊎◌, inl, inr, ⊎_elim}
 use mathlib.Core.List.{List, [], ◌∷◌}
+use Rattle.std.specs.List.{list_all}
 use lib.Dec.{leb, eqb}
 use lib.ListN.{length}
-use borrow.Author.Tests.{not-true, leb-true, le-leb, lt-leb, eqb-true, eqb-false, eq-eqb, ne_eqb}
+use borrow.Author.Tests.{not-true, leb-true, le-leb, eqb-true, eqb-false, eq-eqb, ne_eqb}
 use Rattle.base.specs.Lists.{All, all_empty, all_cons, equal}
 use Rattle.base.specs.Between.{between}
 use Rattle.base.specs.Names.{is_name}
@@ -19,7 +20,7 @@ use Rattle.base.proofs.Tests.{and_left, and_right, and_both, both_ways, or_eithe
 use Rattle.base.proofs.Lists.{equal-same, equal_refl}
 use Rattle.base.proofs.Names.{name_iff, name-length}
 use Rattle.base.specs.Kinds.{bundle_kind}
-use Rattle.sheet.specs.Sheet.{Parameter, parameter, is_kind, is_parameter, are_parameters, clashes, absent, distinct, kind_at, has_parent, have_parents, are_right}
+use Rattle.sheet.specs.Sheet.{Parameter, parameter, is_kind, is_parameter, are_parameters, clashes, absent, distinct, kind_at, has_parent, have_parents}
 use Rattle.sheet.specs.Encode.{ValueKind, WellFormedParameter, MayShare, Absent, HasParent, at_top, in_bundle, Distinct, distinct_empty, distinct_cons}
 use Rattle.sheet.proofs.Listed.{at_listed, listed_kind}
 
@@ -35,76 +36,42 @@ module _ (w : Bool) (k : ℕ) where
   unfolding is_kind between
   kind_bundle e = rw (e, and-true w)
 
-  pub kind_low : k < 1 → false ≡ is_kind w k
-  unfolding is_kind between
-  kind_low l = rw (lt-leb 1 k l, ne_eqb k 7 (λ e. omega arith), and-false w)
+-- what the name decides, where the kind is right
+name-decides : (w : Bool) (k c : ℕ) (n : List ℕ) (t : Bool) → t ≡ is_kind w k → t ≡ true → length n ≤ 30 → (r : Bool) → r ≡ is_name n → r ≡ is_parameter w (parameter k c n)
+unfolding is_parameter
+name-decides w k c n t i y h r e = rw (sym i ∙ y, le-leb (length n) 30 h) e
 
-  pub kind_other : 1 ≤ k → 6 < k → (k ≡ 7 → ⊥) → false ≡ is_kind w k
-  unfolding is_kind between
-  kind_other h l n = rw (le-leb 1 k h, lt-leb k 6 l, ne_eqb k 7 n, and-false w)
+-- ---- a list of parameters: each test of a list is `all` of a test
 
--- what a kind's test and the name decide
-module _ (w : Bool) (k c : ℕ) (n : List ℕ) (t : Bool) (i : t ≡ is_kind w k) where
-  pub kind_not : t ≡ false → false ≡ is_parameter w (parameter k c n)
-  unfolding is_parameter
-  kind_not h = rw (sym i ∙ h)
-
-  module _ (y : t ≡ true) where
-    pub name_long : 30 < length n → false ≡ is_parameter w (parameter k c n)
-    unfolding is_parameter
-    name_long h = rw (sym i ∙ y, lt-leb (length n) 30 h)
-
-    pub name-decides : length n ≤ 30 → (r : Bool) → r ≡ is_name n → r ≡ is_parameter w (parameter k c n)
-    unfolding is_parameter
-    name-decides h r e = rw (sym i ∙ y, le-leb (length n) 30 h) e
-
--- ---- a list of parameters
-
-module _ (p : Parameter) (ps : List Parameter) (r : Bool) where
-  pub are_next : (w : Bool) → r ≡ is_parameter w p → r ≡ true → are_parameters w (p ∷ ps) ≡ are_parameters w ps
-  unfolding are_parameters
-  are_next w e t = rw (sym e ∙ t)
-
-  pub are_not : (w : Bool) → r ≡ is_parameter w p → r ≡ false → false ≡ are_parameters w (p ∷ ps)
-  unfolding are_parameters
-  are_not w e f = rw (sym e ∙ f)
-
-  module _ (c : ℕ) (n : List ℕ) (same : Bool) (i : same ≡ equal p.name n) (e : r ≡ clashes p.bundle c same) where
-    pub absent-next : r ≡ false → absent c n (p ∷ ps) ≡ absent c n ps
-    unfolding absent
-    absent-next f = rw (← i, sym e ∙ f)
-
-    pub absent_not : r ≡ true → false ≡ absent c n (p ∷ ps)
-    unfolding absent
-    absent_not t = rw (← i, sym e ∙ t)
-
-  pub parents_next : (qs : List Parameter) → r ≡ has_parent qs p.kind p.bundle → r ≡ true → have_parents qs (p ∷ ps) ≡ have_parents qs ps
-  unfolding have_parents
-  parents_next qs e t = rw (sym e ∙ t)
-
-  pub parents_not : (qs : List Parameter) → r ≡ has_parent qs p.kind p.bundle → r ≡ false → false ≡ have_parents qs (p ∷ ps)
-  unfolding have_parents
-  parents_not qs e f = rw (sym e ∙ f)
-
-  pub distinct-next : r ≡ absent p.bundle p.name ps → r ≡ true → distinct (p ∷ ps) ≡ distinct ps
-  unfolding distinct
-  distinct-next e t = rw (sym e ∙ t)
-
-  pub distinct_not : r ≡ absent p.bundle p.name ps → r ≡ false → false ≡ distinct (p ∷ ps)
-  unfolding distinct
-  distinct_not e f = rw (sym e ∙ f)
-
-pub are_end : (w : Bool) → true ≡ are_parameters w []
+pub are_all : (w : Bool) (ps : List Parameter) → list_all (is_parameter w) ps ≡ are_parameters w ps
 unfolding are_parameters
-are_end w = refl
+are_all w [] = refl
+are_all w (p ∷ ps) = ap (λ (b : Bool). is_parameter w p && b) (are_all w ps)
 
-pub absent_end : (c : ℕ) (n : List ℕ) → true ≡ absent c n []
+pub absent_all : (c : ℕ) (n : List ℕ) (ps : List Parameter) → list_all (λ (p : Parameter). not (clashes p.bundle c (equal p.name n))) ps ≡ absent c n ps
 unfolding absent
-absent_end c n = refl
+absent_all c n [] = refl
+absent_all c n (p ∷ ps) = ap (λ (b : Bool). not (clashes p.bundle c (equal p.name n)) && b) (absent_all c n ps)
 
-pub parents_end : (ps : List Parameter) → true ≡ have_parents ps []
+pub parents_all : (ps qs : List Parameter) → list_all (λ (q : Parameter). has_parent ps q.kind q.bundle) qs ≡ have_parents ps qs
 unfolding have_parents
-parents_end ps = refl
+parents_all ps [] = refl
+parents_all ps (q ∷ qs) = ap (λ (b : Bool). has_parent ps q.kind q.bundle && b) (parents_all ps qs)
+
+-- a turn over the parameters to come, for the names
+module _ (all xs : List Parameter) (inv : distinct xs ≡ distinct all) where
+  module _ (p : Parameter) (ps : List Parameter) (e : xs ≡ p ∷ ps) where
+    pub distinct-next : absent p.bundle p.name ps ≡ true → distinct ps ≡ distinct all
+    unfolding distinct
+    distinct-next t = sym (ap distinct e ∙ rw t) ∙ inv
+
+    pub distinct_not : absent p.bundle p.name ps ≡ false → false ≡ distinct all
+    unfolding distinct
+    distinct_not f = sym (ap distinct e ∙ rw f) ∙ inv
+
+  pub distinct_end : xs ≡ [] → true ≡ distinct all
+  unfolding distinct
+  distinct_end e = sym (ap distinct e) ∙ inv
 
 -- ---- the same name in two bundles
 
@@ -123,10 +90,6 @@ module _ (a c : ℕ) (same : Bool) where
       unfolding clashes
       clash_top e = rw (h, e, or-true (eqb c 0))
 
-      pub clash_bundle : (a ≡ 0 → ⊥) → eqb a c ≡ clashes a c same
-      unfolding clashes
-      clash_bundle m = rw (h, ne_eqb c 0 n, ne_eqb a 0 m)
-
 -- ---- a parent
 
 module _ (ps : List Parameter) (k c : ℕ) where
@@ -135,33 +98,9 @@ module _ (ps : List Parameter) (k c : ℕ) where
   parent_top e = rw e
 
   module _ (n : c ≡ 0 → ⊥) where
-    pub parent_nested : k ≡ 7 → false ≡ has_parent ps k c
-    unfolding has_parent
-    parent_nested e = rw (ne_eqb c 0 n, e)
-
     pub parent_kind : (k ≡ 7 → ⊥) → (j : ℕ) → j ≡ kind_at (c - 1) ps → eqb j 7 ≡ has_parent ps k c
     unfolding has_parent
     parent_kind m j e = rw (ne_eqb c 0 n, ne_eqb k 7 m, ← e)
-
--- ---- all of it
-
-module _ (w : Bool) (ps : List Parameter) (r : Bool) (e : r ≡ are_parameters w ps) where
-  pub right_parameters_not : r ≡ false → false ≡ are_right w ps
-  unfolding are_right
-  right_parameters_not h = rw (sym e ∙ h)
-
-  module _ (h : r ≡ true) (s : Bool) (d : s ≡ distinct ps) where
-    pub right_names_not : s ≡ false → false ≡ are_right w ps
-    unfolding are_right
-    right_names_not i = rw (sym e ∙ h, sym d ∙ i)
-
-    pub right_parents : s ≡ true → (u : Bool) → u ≡ have_parents ps ps → u ≡ are_right w ps
-    unfolding are_right
-    right_parents i u k = rw (sym e ∙ h, sym d ∙ i) k
-
-pub distinct_end : true ≡ distinct []
-unfolding distinct
-distinct_end = refl
 
 -- ---- the rules' words
 
