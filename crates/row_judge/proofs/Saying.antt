@@ -4,17 +4,19 @@
 -- verdict of a test after brackets, by the set of the entries that are kept, is found from whether there is an entry that counts and of
 -- whose occurrence the rows in the brackets say yes (`each_is`, from `entry_is`, by induction on the entries).
 -- Assumes nothing.
-use Rattle.std.specs.Prelude.{Some}
+use Rattle.std.specs.Prelude.{Option, Some, None}
 use Prim.Native.Nat.{ℕ, zero, suc, ◌+◌, ◌*◌, ◌-◌, ◌/◌, ◌≤◌, ◌<◌}
 use native.Mathlib.Omega.{arith}
 use mathlib.Core.Path.{◌≡◌, refl, sym, ap, ap₂, subst, ◌∙◌}
 use mathlib.Core.Bool.{Bool, true, false, cond, not, ◌&&◌, ◌||◌}
-use mathlib.Core.Option.{Option, none, some, none-ne-some, some-injective}
+use mathlib.Core.Option as maybe
+use mathlib.Core.Option.{none, some, none-ne-some, some-injective}
 use mathlib.Core.List.{List, [], ◌∷◌, ◌++◌, append-nil, append_assoc}
 use lib.Dec.{eqb, ltb}
 use lib.IntN.{ℤ}
 use lib.ListN.{length, get_or, take, drop, length-take, length-drop}
 use lib.Seq.{get_or-take, get_or-drop, take_all, take-append_seam, drop-cons, drop-drop, drop-length}
+use Rattle.std.proofs.lemmas.Option.{none-some, same_Some}
 use Rattle.base.specs.Parts.{part}
 use Rattle.base.proofs.Parts.{part_length}
 use Rattle.base.proofs.Tests.{and_true, and_false, both_ways}
@@ -193,74 +195,72 @@ pub occurrence_says_lem : (kinds xs rows : List ℕ) (all : List Entry) (o : ℕ
 unfolding in_brackets
 occurrence_says_lem kinds xs rows all o r e = e ∙ ap (λ (l : List Entry). rows_say kinds xs l (take (length rows - 1) (drop 1 rows))) (chosen_one o all)
 
-module _ (kinds xs : List ℕ) (p : Probe) (o : Opened) (e : o ≡ opened_for kinds xs p) where
-  -- what is opened of a value that there is
-  record Told (m : Meaning) : Type 0 where
-    known : Known xs m o
-    value : RawValue
-    found : value_at xs p.position ≡ FoundValue.Value value
-    same : value_of xs o ≡ value_in xs value
-    truth : o.truth ≡ is_true (value_in xs value)
-
-  told : o.found ≡ true → Told (meaning_of p.operator (get_or kinds p.index 0))
-  unfolding opened_for opened_value value_of
-  told h = by_value (value_at xs p.position) refl
-    where
-      by_value : (f : FoundValue) → value_at xs p.position ≡ f → Told (meaning_of p.operator (get_or kinds p.index 0))
-      by_value (FoundValue.Value v) i =
-          let is : o ≡ opened_value (meaning_of p.operator (get_or kinds p.index 0)) v (value_in xs v) = e ∙ ap (opened_by xs (meaning_of p.operator (get_or kinds p.index 0))) i in
-          let q : PlacedValue xs v = value-at-placed xs p.position (value_at xs p.position) v refl i in
-          record {
-            known = record { order = rw is q.order; within = rw is q.within; read = rw is };
-            value = v;
-            found = i;
-            same = rw is;
-            truth = rw is;
-          }
-      by_value FoundValue.Nothing i =
-          let none : false ≡ true = sym (ap (λ (q : Opened). q.found) (e ∙ ap (opened_by xs (meaning_of p.operator (get_or kinds p.index 0))) i)) ∙ h in
-          absurd (let z : ◌≡◌ {A = ℕ} 0 1 = cc in omega arith)
-
-  pub probe_known : (m : Meaning) (kind : ℕ) → o.found ≡ true → kind ≡ get_or kinds p.index 0 → m ≡ meaning_of p.operator kind → Known xs m o
-  probe_known m kind h i j = subst (λ (n : Meaning). Known xs n o) (sym (j ∙ ap (meaning_of p.operator) i)) (told h).known
-
+module _ (kinds xs : List ℕ) (p : Probe) (c : Option Opened) (e : c ≡ opened_for kinds xs p) where
   -- where none is opened there is none
-  none_told : o.found ≡ false → value_at xs p.position ≡ FoundValue.Nothing
-  unfolding opened_for opened_value
+  none_told : c ≡ None → value_at xs p.position ≡ FoundValue.Nothing
+  unfolding opened_for
   none_told h = by_value (value_at xs p.position) refl
     where
       by_value : (f : FoundValue) → value_at xs p.position ≡ f → f ≡ FoundValue.Nothing
       by_value (FoundValue.Value v) i =
-          let some : true ≡ false = sym (ap (λ (q : Opened). q.found) (e ∙ ap (opened_by xs (meaning_of p.operator (get_or kinds p.index 0))) i)) ∙ h in
-          absurd (let z : ◌≡◌ {A = ℕ} 0 1 = cc in omega arith)
+          absurd (none-some _ (sym h ∙ e ∙ ap (opened_by xs (meaning_of p.operator (get_or kinds p.index 0))) i))
       by_value FoundValue.Nothing i = refl
 
-  -- a test without brackets
-  module _ (es : List Entry) where
-    pub plain_closed : o.found ≡ false → false ≡ probe_says kinds xs p es
-    unfolding probe_says
-    plain_closed h = rw (none_told h)
+  pub plain_closed : (es : List Entry) → c ≡ None → false ≡ probe_says kinds xs p es
+  unfolding probe_says
+  plain_closed es h = rw (none_told h)
 
-    pub plain-opened : (m : Meaning) (kind : ℕ) (s r : Bool) → o.found ≡ true → kind ≡ get_or kinds p.index 0 → m ≡ meaning_of p.operator kind
+  pub probe_closed : (inner : List ℕ) (k : Chosen) (all : List Entry) → c ≡ None → false ≡ probe_says_each kinds xs inner p k all
+  unfolding probe_says_each
+  probe_closed inner k all h = rw (none_told h)
+
+  module _ (o : Opened) (h : c ≡ Some o) where
+    -- what is opened of a value that there is
+    record Told (m : Meaning) : Type 0 where
+      known : Known xs m o
+      value : RawValue
+      found : value_at xs p.position ≡ FoundValue.Value value
+      same : value_of xs o ≡ value_in xs value
+      truth : o.truth ≡ is_true (value_in xs value)
+
+    told : Told (meaning_of p.operator (get_or kinds p.index 0))
+    unfolding opened_for opened_value value_of
+    told = by_value (value_at xs p.position) refl
+      where
+        by_value : (f : FoundValue) → value_at xs p.position ≡ f → Told (meaning_of p.operator (get_or kinds p.index 0))
+        by_value (FoundValue.Value v) i =
+            let is : o ≡ opened_value (meaning_of p.operator (get_or kinds p.index 0)) v (value_in xs v) =
+            same_Some _ _ (sym h ∙ e ∙ ap (opened_by xs (meaning_of p.operator (get_or kinds p.index 0))) i) in
+            let q : PlacedValue xs v = value-at-placed xs p.position (value_at xs p.position) v refl i in
+            record {
+              known = record { order = rw is q.order; within = rw is q.within; read = rw is };
+              value = v;
+              found = i;
+              same = rw is;
+              truth = rw is;
+            }
+        by_value FoundValue.Nothing i =
+            absurd (none-some o (sym (ap (opened_by xs (meaning_of p.operator (get_or kinds p.index 0))) i) ∙ sym e ∙ h))
+
+    pub probe_known : (m : Meaning) (kind : ℕ) → kind ≡ get_or kinds p.index 0 → m ≡ meaning_of p.operator kind → Known xs m o
+    probe_known m kind i j = subst (λ (n : Meaning). Known xs n o) (sym (j ∙ ap (meaning_of p.operator) i)) told.known
+
+    -- a test without brackets
+    pub plain-opened : (es : List Entry) (m : Meaning) (kind : ℕ) (s r : Bool) → kind ≡ get_or kinds p.index 0 → m ≡ meaning_of p.operator kind
         → s ≡ some_value (text_counts m (value_of xs o)) (values_at p.index es) → r ≡ some_says m o.truth s → r ≡ probe_says kinds xs p es
     unfolding probe_says
-    plain-opened m kind s r h i j q y =
+    plain-opened es m kind s r i j q y =
         let is : m ≡ meaning_of p.operator (get_or kinds p.index 0) = j ∙ ap (meaning_of p.operator) i in
-        let w = told h in
+        let w = told in
         rw w.found (says_by_some m (value_of xs o) (values_at p.index es) o.truth s r q (w.truth ∙ ap is_true (sym w.same)) y ∙ ap₂ (λ (n : Meaning) (v : List ℕ). says_of n v (values_at p.index es)) is w.same)
 
-  -- a test after brackets
-  module _ (inner : List ℕ) (k : Chosen) (all : List Entry) where
-    pub probe_closed : o.found ≡ false → false ≡ probe_says_each kinds xs inner p k all
-    unfolding probe_says_each
-    probe_closed h = rw (none_told h)
-
-    pub probe_opened : (m : Meaning) (kind : ℕ) (s r : Bool) → o.found ≡ true → kind ≡ get_or kinds p.index 0 → m ≡ meaning_of p.operator kind
+    -- a test after brackets
+    pub probe_opened : (inner : List ℕ) (k : Chosen) (all : List Entry) (m : Meaning) (kind : ℕ) (s r : Bool) → kind ≡ get_or kinds p.index 0 → m ≡ meaning_of p.operator kind
         → s ≡ some_entry (occurrence_says kinds xs all inner) k p.index m (value_of xs o) all → r ≡ some_says m o.truth s → r ≡ probe_says_each kinds xs inner p k all
     unfolding probe_says_each
-    probe_opened m kind s r h i j q y =
+    probe_opened inner k all m kind s r i j q y =
         let is : m ≡ meaning_of p.operator (get_or kinds p.index 0) = j ∙ ap (meaning_of p.operator) i in
-        let w = told h in
+        let w = told in
         rw w.found (y ∙ ap₂ (λ (a b : Bool). some_says m a b) w.truth (q ∙ ap (λ (v : List ℕ). some_entry (occurrence_says kinds xs all inner) k p.index m v all) w.same) ∙ ap (λ (n : Meaning). some_says n (is_true (value_in xs w.value)) (some_entry (occurrence_says kinds xs all inner) k p.index n (value_in xs w.value) all)) is)
 
 -- ---- a value that was opened
@@ -307,12 +307,12 @@ module _ (card cells : List ℕ) (spans : List ℤ) (h : KeepsCard card cells sp
   pub test_chain : read_card card ≡ WellFormed → (from : ℕ) → from ≡ get_or cells i 0 → OnChain card cells i from
   test_chain w from e = chain_begins card cells spans h i from w l is_kept e
 
-  pub test_opened : (xs : List ℕ) (p : Probe) (o : Opened) → o ≡ opened_for (kinds_in cells) xs p → p.index ≡ i → (k : Chosen) (m : Meaning) (kind from first : ℕ) (r : Bool) → o.found ≡ true → kind ≡ get_or (kinds_in cells) i 0
+  pub test_opened : (xs : List ℕ) (p : Probe) (c : Option Opened) (o : Opened) → c ≡ opened_for (kinds_in cells) xs p → c ≡ Some o → p.index ≡ i → (k : Chosen) (m : Meaning) (kind from first : ℕ) (r : Bool) → kind ≡ get_or (kinds_in cells) i 0
       → m ≡ meaning_of p.operator kind → from ≡ get_or cells i 0 → FirstFrom (entry_counts k m (value_of xs o)) card cells i from first → r ≡ some_says m o.truth (ltb 0 first)
       → r ≡ probe_says (kinds_in cells) xs p (chosen_of k (entries_of card))
-  test_opened xs p o e same k m kind from first r f ke me fe c y =
-      plain-opened (kinds_in cells) xs p o e (chosen_of k (entries_of card)) m kind (ltb 0 first) r f (ke ∙ ap (λ (n : ℕ). get_or (kinds_in cells) n 0) (sym same)) me
-      (some_first card cells spans h i l is_kept k m (value_of xs o) from first fe c ∙ ap (λ (n : ℕ). some_value (text_counts m (value_of xs o)) (values_at n (chosen_of k (entries_of card)))) (sym same)) y
+  test_opened xs p c o e f same k m kind from first r ke me fe d y =
+      plain-opened (kinds_in cells) xs p c e o f (chosen_of k (entries_of card)) m kind (ltb 0 first) r (ke ∙ ap (λ (n : ℕ). get_or (kinds_in cells) n 0) (sym same)) me
+      (some_first card cells spans h i l is_kept k m (value_of xs o) from first fe d ∙ ap (λ (n : ℕ). some_value (text_counts m (value_of xs o)) (values_at n (chosen_of k (entries_of card)))) (sym same)) y
 
 -- ---- rows, from left to right with a verdict in hand
 
@@ -328,24 +328,24 @@ decided_not Connective.And false b h = both_ways refl h
 decided_not Connective.Or true b h = both_ways refl h
 decided_not Connective.Or false b h = refl
 
-abbrev when_stated : Option Expression → Option Bool → Option Bool
+abbrev when_stated : maybe.Option Expression → maybe.Option Bool → maybe.Option Bool
 when_stated none then = none
 when_stated (some e) then = then
 
 module _ (kinds xs : List ℕ) (k : Chosen) (all : List Entry) where
   -- brackets with n rows in them, by the row of the test
-  abbrev tell_test : (ℕ → Bool → Option Bool) → ℕ → List ℕ → Row → Option Bool
+  abbrev tell_test : (ℕ → Bool → maybe.Option Bool) → ℕ → List ℕ → Row → maybe.Option Bool
   tell_test go n cs (Row.Test p) = when_stated (stated (take n cs)) (go n (probe_says_each kinds xs (take n cs) p k all))
   tell_test go n cs (Row.Bracket m) = none
   tell_test go n cs Row.Not = none
   tell_test go n cs (Row.Connect c m) = none
   tell_test go n cs Row.Unknown = none
 
-  abbrev tell_brackets : (ℕ → Bool → Option Bool) → ℕ → List ℕ → Option Bool
+  abbrev tell_brackets : (ℕ → Bool → maybe.Option Bool) → ℕ → List ℕ → maybe.Option Bool
   tell_brackets go n [] = none
   tell_brackets go n (c ∷ cs) = tell_test (λ m u. go (suc m) u) n cs (row_of c)
 
-  abbrev tell_row : (ℕ → Bool → Option Bool) → Bool → List ℕ → Row → Option Bool
+  abbrev tell_row : (ℕ → Bool → maybe.Option Bool) → Bool → List ℕ → Row → maybe.Option Bool
   tell_row go v cs (Row.Test p) = go 0 (probe_says kinds xs p (chosen_of k all))
   tell_row go v cs (Row.Bracket n) = tell_brackets go n cs
   tell_row go v cs Row.Not = go 0 (not v)
@@ -353,7 +353,7 @@ module _ (kinds xs : List ℕ) (k : Chosen) (all : List Entry) where
   tell_row go v cs Row.Unknown = none
 
   -- the verdict in hand, and all rows behind the next n
-  unfoldable pub tell : ℕ → Bool → List ℕ → Option Bool
+  unfoldable pub tell : ℕ → Bool → List ℕ → maybe.Option Bool
   tell zero v [] = some v
   tell (suc n) v [] = none
   tell zero v (c ∷ cs) = tell_row (λ n u. tell n u cs) v cs (row_of c)
@@ -381,7 +381,7 @@ module _ (kinds xs : List ℕ) (k : Chosen) (all : List Entry) where
       ap (tell_row (λ m u. tell m u (c ∷ (encode e ++ cs))) v (c ∷ (encode e ++ cs))) (row_bracket n)
       ∙ ap (tell_test (λ m u. tell m u (encode e ++ cs)) n (encode e ++ cs)) (row_test p s)
       ∙ ap (λ (l : List ℕ). when_stated (stated l) (tell n (probe_says_each kinds xs l p k all) (encode e ++ cs))) part_is
-      ∙ ap (λ (o : Option Expression). when_stated o (tell n (probe_says_each kinds xs (encode e) p k all) (encode e ++ cs))) (stated-encode e w)
+      ∙ ap (λ (o : maybe.Option Expression). when_stated o (tell n (probe_says_each kinds xs (encode e) p k all) (encode e ++ cs))) (stated-encode e w)
       ∙ tell-part (encode e) (probe_says_each kinds xs (encode e) p k all) cs
       ∙ ap (λ (u : Bool). tell 0 u cs) (bracket_is kinds xs k all p e (encode e) (stated-encode e w))
   tell-encode (negating e) (writable_not w) v cs =
@@ -418,7 +418,7 @@ module _ (kinds xs : List ℕ) (k : Chosen) (all : List Entry) where
       by_row : (q : Row) → row_of c ≡ q → tell_test (λ m u. tell m u cs) n cs q ≡ some r → ToldOf n (c ∷ cs) r
       by_row (Row.Test p) i g = by_stated (stated (take n cs)) refl g
         where
-          by_stated : (o : Option Expression) → stated (take n cs) ≡ o → when_stated o (tell n (probe_says_each kinds xs (take n cs) p k all) cs) ≡ some r → ToldOf n (c ∷ cs) r
+          by_stated : (o : maybe.Option Expression) → stated (take n cs) ≡ o → when_stated o (tell n (probe_says_each kinds xs (take n cs) p k all) cs) ≡ some r → ToldOf n (c ∷ cs) r
           by_stated none j g = absurd (none-ne-some _ g)
           by_stated (some e) j g = record { first = c; rest = cs; are = refl; probe = p; row = i; expression = e; states = j; goes = g }
       by_row (Row.Bracket m) i g = absurd (none-ne-some _ g)
@@ -545,7 +545,7 @@ module _ {xs rows values : List ℕ} {ends : List ℤ} {card cells : List ℕ} {
   ready_end = omega (arith, l, w.opens.ends_room)
 
   module _ (r : Row) (e : r ≡ row_of (get_or rows at 0)) (p : Probe) (j : r ≡ Row.Test p) where
-    pub ready_test : (o : Opened) → o ≡ opened_at values ends at → o ≡ opened_for (kinds_in cells) xs p
+    pub ready_test : (o : Option Opened) → o ≡ opened_at values ends at → o ≡ opened_for (kinds_in cells) xs p
     unfolding opened_row
     ready_test o h = h ∙ w.opens.each at l ∙ ap (opened_in (kinds_in cells) xs) (sym e ∙ j)
 
@@ -583,20 +583,20 @@ module _ {xs rows values : List ℕ} {ends : List ℤ} {card cells : List ℕ} {
     pub bracketed_chain : (from : ℕ) → from ≡ get_or cells p.index 0 → OnChain card cells p.index from
     bracketed_chain from e = chain_begins card cells spans w.keeps p.index from w.well_formed bracketed_index bracketed_kept e
 
-    module _ (o : Opened) (h : o ≡ opened_at values ends 0) where
-      opened_is : o ≡ opened_for (kinds_in cells) xs p
+    module _ (c : Option Opened) (h : c ≡ opened_at values ends 0) where
+      opened_is : c ≡ opened_for (kinds_in cells) xs p
       unfolding opened_row
       opened_is = h ∙ w.opens.each 0 (omega (arith, w.some_row)) ∙ ap (opened_in (kinds_in cells) xs) (w.row ∙ ap Row.Test test_is)
 
       abbrev inner_rows : List ℕ
       inner_rows = take (length rows - 1) (drop 1 rows)
 
-      pub bracket_closed : (k : Chosen) → o.found ≡ false → false ≡ bracket_says (kinds_in cells) xs rows k (entries_of card)
-      bracket_closed k f = probe_closed (kinds_in cells) xs p o opened_is inner_rows k (entries_of card) f ∙ ap (λ (x : Probe). probe_says_each (kinds_in cells) xs inner_rows x k (entries_of card)) i
+      bracket_none : (k : Chosen) → c ≡ None → false ≡ bracket_says (kinds_in cells) xs rows k (entries_of card)
+      bracket_none k f = probe_closed (kinds_in cells) xs p c opened_is inner_rows k (entries_of card) f ∙ ap (λ (x : Probe). probe_says_each (kinds_in cells) xs inner_rows x k (entries_of card)) i
 
-      module _ (k : Chosen) (m : Meaning) (kind : ℕ) (f : o.found ≡ true) (a : kind ≡ get_or (kinds_in cells) p.index 0) (b : m ≡ meaning_of p.operator kind) where
+      module _ (o : Opened) (f : c ≡ Some o) (k : Chosen) (m : Meaning) (kind : ℕ) (a : kind ≡ get_or (kinds_in cells) p.index 0) (b : m ≡ meaning_of p.operator kind) where
         pub bracket_known : Known xs m o
-        bracket_known = probe_known (kinds_in cells) xs p o opened_is m kind f a b
+        bracket_known = probe_known (kinds_in cells) xs p c opened_is o f m kind a b
 
         -- the answer that the loop over the entries looks for
         abbrev bracket_some : Bool
@@ -608,7 +608,10 @@ module _ {xs rows values : List ℕ} {ends : List ℤ} {card cells : List ℕ} {
 
         pub bracket_opened : (s r : Bool) → s ≡ bracket_some → r ≡ some_says m o.truth s → r ≡ bracket_says (kinds_in cells) xs rows k (entries_of card)
         unfolding in_brackets
-        bracket_opened s r q y = probe_opened (kinds_in cells) xs p o opened_is inner_rows k (entries_of card) m kind s r f a b q y ∙ ap (λ (x : Probe). probe_says_each (kinds_in cells) xs inner_rows x k (entries_of card)) i
+        bracket_opened s r q y = probe_opened (kinds_in cells) xs p c opened_is o f inner_rows k (entries_of card) m kind s r a b q y ∙ ap (λ (x : Probe). probe_says_each (kinds_in cells) xs inner_rows x k (entries_of card)) i
+
+  pub bracket_closed : (k : Chosen) (c : Option Opened) → c ≡ opened_at values ends 0 → c ≡ None → false ≡ bracket_says (kinds_in cells) xs rows k (entries_of card)
+  bracket_closed k c h f = bracket_none (probe_of (get_or rows 0 0 / 8)) refl c h k f
 
 -- ---- the loop of a test after brackets
 
@@ -620,14 +623,14 @@ pub record Brackets (xs rows values : List ℕ) (ends : List ℤ) (card cells : 
   pub answers : (s r : Bool) → s ≡ some_entry (in_brackets (kinds_in cells) xs rows (entries_of card)) k i m (value_of xs o) (entries_of card) → r ≡ some_says m o.truth s → r ≡ bracket_says (kinds_in cells) xs rows k (entries_of card)
 
 module _ (xs rows values : List ℕ) (ends : List ℤ) (card cells : List ℕ) (spans : List ℤ) (k : Chosen) (m : Meaning) (o : Opened) where
-  pub brackets_start : (p : Probe) (kind from r : ℕ) → Bracketed xs rows values ends card cells spans → p ≡ probe_of (get_or rows 0 0 / 8) → o ≡ opened_at values ends 0 → o.found ≡ true → kind ≡ get_or (kinds_in cells) p.index 0
+  pub brackets_start : (p : Probe) (r' : Option Opened) (kind from r : ℕ) → Bracketed xs rows values ends card cells spans → p ≡ probe_of (get_or rows 0 0 / 8) → r' ≡ opened_at values ends 0 → r' ≡ Some o → kind ≡ get_or (kinds_in cells) p.index 0
       → m ≡ meaning_of p.operator kind → from ≡ get_or cells p.index 0 → FirstFrom (entry_counts k m (value_of xs o)) card cells p.index from r → Brackets xs rows values ends card cells spans k p.index m o r
-  brackets_start p kind from r w i h f a b e c =
+  brackets_start p r' kind from r w i h f a b e c =
       record {
         ready = w;
-        known = bracket_known w p i o h k m kind f a b;
-        choosing = bracket_start w p i o h k m kind f a b from r e c;
-        answers = bracket_opened w p i o h k m kind f a b;
+        known = bracket_known w p i r' h o f k m kind a b;
+        choosing = bracket_start w p i r' h o f k m kind a b from r e c;
+        answers = bracket_opened w p i r' h o f k m kind a b;
       }
 
   module _ (i n : ℕ) (inv : Brackets xs rows values ends card cells spans k i m o n) where

@@ -117,29 +117,29 @@ fn plain_says(
     spans: &[i64],
     chosen: Chosen,
     probe: Probe,
-    opened: Opened,
+    value: Option<Opened>,
 ) -> bool
     requires filter_len_bound { length filter.now ≤ 1024 }
     requires card_value { read_card card.now ≡ Validity.WellFormed }
     requires keeps_card { KeepsCard card.now cells.now spans.now }
     requires index_bound { probe.index < 32 }
     requires index_value { get_or cells.now (544 + probe.index) 0 ≡ 0 }
-    requires opened_value { opened ≡ opened_for (kinds_in cells.now) filter.now probe }
+    requires opened_value { value ≡ opened_for (kinds_in cells.now) filter.now probe }
     ensures { result ≡ probe_says (kinds_in cells.now) filter.now probe (chosen_of chosen (entries_of card.now)) }
 {
+    let Some(opened) = value else {
+        return false;
+    };
     let index = probe.index;
-    if opened.found {
-        let meaning = kind::meaning_of(probe.operator, kind_at(cells, spans, index));
-        let asked = Asked {
-            index,
-            meaning,
-            opened,
-        };
-        let from = chain_of(cells, index);
-        let first = next_text(filter, card, cells, spans, chosen, asked, from);
-        return some_says(meaning, opened.truth, first > 0);
-    }
-    false
+    let meaning = kind::meaning_of(probe.operator, kind_at(cells, spans, index));
+    let asked = Asked {
+        index,
+        meaning,
+        opened,
+    };
+    let from = chain_of(cells, index);
+    let first = next_text(filter, card, cells, spans, chosen, asked, from);
+    some_says(meaning, opened.truth, first > 0)
 }
 
 // What a test after brackets says of the entries that count: its row, and those in its brackets behind it. Some entry must count, and the rows
@@ -158,39 +158,38 @@ fn bracket_says(
     requires { Bracketed filter.now rows.now values.now ends.now card.now cells.now spans.now }
     ensures { result ≡ bracket_says (kinds_in cells.now) filter.now rows.now chosen (entries_of card.now) }
 {
+    let Some(opened) = opened_at(values, ends, 0) else {
+        return false;
+    };
     let probe = probe_of(rows[0] / 8);
     let index = probe.index;
-    let opened = opened_at(values, ends, 0);
-    if opened.found {
-        let meaning = kind::meaning_of(probe.operator, kind_at(cells, spans, index));
-        let asked = Asked {
-            index,
-            meaning,
-            opened,
-        };
-        let from = chain_of(cells, index);
-        let mut next = next_text(filter, card, cells, spans, chosen, asked, from);
-        while next > 0 {
-            let e = next - 1;
-            let own = Some(occurrence_of(cells, e));
-            if rows_say(
-                filter,
-                &rows[1..],
-                &values[2..],
-                &ends[2..],
-                card,
-                cells,
-                spans,
-                own,
-            ) {
-                return some_says(meaning, opened.truth, true);
-            }
-            let behind = chain_behind(cells, e);
-            next = next_text(filter, card, cells, spans, chosen, asked, behind);
+    let meaning = kind::meaning_of(probe.operator, kind_at(cells, spans, index));
+    let asked = Asked {
+        index,
+        meaning,
+        opened,
+    };
+    let from = chain_of(cells, index);
+    let mut next = next_text(filter, card, cells, spans, chosen, asked, from);
+    while next > 0 {
+        let e = next - 1;
+        let own = Some(occurrence_of(cells, e));
+        if rows_say(
+            filter,
+            &rows[1..],
+            &values[2..],
+            &ends[2..],
+            card,
+            cells,
+            spans,
+            own,
+        ) {
+            return some_says(meaning, opened.truth, true);
         }
-        return some_says(meaning, opened.truth, false);
+        let behind = chain_behind(cells, e);
+        next = next_text(filter, card, cells, spans, chosen, asked, behind);
     }
-    false
+    some_says(meaning, opened.truth, false)
 }
 
 // What rows that were opened say of the entries of a well-formed card that count.

@@ -14,6 +14,7 @@ use lib.Dec.{eqb}
 use lib.IntN.{ℤ, pos}
 use lib.ListN.{length, get_or, take, drop, set, length-set, length-drop}
 use lib.Seq.{get_or-set_same, get_or-set_other, get_or-take, get_or-drop, take_all, length-take-le}
+use Rattle.std.proofs.lemmas.Option.{none-some, same_Some}
 use Rattle.base.specs.Parts.{part}
 use Rattle.base.proofs.Parts.{part_length}
 use borrow.Author.Tests.{lt-ltb, le-ltb, eq-eqb, ne_eqb, eqb-true, eqb-false}
@@ -29,14 +30,14 @@ use Rattle.syntax.specs.declared.FoundValue.{FoundValue}
 use Rattle.syntax.proofs.Places.{value-at-placed}
 use Rattle.kind.specs.Table.{meaning_of}
 use Rattle.kind.specs.Readable.{is_true}
-use Rattle.kind.specs.Relations.{unread, readings_of}
+use Rattle.kind.specs.Relations.{readings_of}
 use Rattle.kind.specs.declared.Readings.{Readings}
 use Rattle.kind.specs.declared.Relation.{Relation}
 use Rattle.kind.specs.declared.Meaning.{Meaning}
 use Rattle.judge.specs.Once.{readings_for}
 use Rattle.rows.specs.Cells.{row_of}
 use Rattle.rows.specs.Shapes.{bit, value_in}
-use Rattle.row_opener.specs.Opening.{closed, opened_value, opened_by, opened_for, opened_in, opened_row, date_mark, mark_of, digits_of, start_of, end_of, span_of, number_from, date_from, opened_from, opened_at, Opens}
+use Rattle.row_opener.specs.Opening.{opened_value, opened_by, opened_for, opened_in, opened_row, date_mark, mark_of, digits_of, start_of, end_of, span_of, number_from, date_from, opened_from, opened_at, Opens}
 use Rattle.row_opener.specs.Packing.{Sane, Small}
 use Rattle.rows.specs.declared.Probe.{Probe}
 use Rattle.rows.specs.declared.Row.{Row}
@@ -44,11 +45,8 @@ use Rattle.row_opener.specs.declared.Opened.{Opened}
 
 -- ---- what a value reads to is small
 
-not_both : (a : Decimal) → None ≡ Some a → ⊥
-not_both a h = let z : ◌≡◌ {A = ℕ} 0 1 = cc in omega arith
-
 sane_unread : (d : Option Date) → Sane None d
-sane_unread d = record { decimals = λ a h. absurd (not_both a h); alone = λ a h. absurd (not_both a h) }
+sane_unread d = record { decimals = λ a h. absurd (none-some a h); alone = λ a h. absurd (none-some a h) }
 
 sane_of : (r : Relation) (w : List ℕ) → Sane (readings_of r w).number (readings_of r w).date
 unfolding readings_of
@@ -65,32 +63,30 @@ sane_for (Meaning.Relates r) w = sane_of r w
 sane_for (Meaning.Differs r) w = sane_of r w
 sane_for Meaning.Nothing w = sane_unread None
 
-closed_small : Small closed
-closed_small = record { sane = sane_unread None; start_most = omega arith; end_most = omega arith }
-
-for_small : (kinds xs : List ℕ) (p : Probe) → length xs ≤ 1024 → Small (opened_for kinds xs p)
+for_small : (kinds xs : List ℕ) (p : Probe) (o : Opened) → opened_for kinds xs p ≡ Some o → length xs ≤ 1024 → Small o
 unfolding opened_for opened_value
-for_small kinds xs p l = by_value (value_at xs p.position) refl
+for_small kinds xs p o h l = by_value (value_at xs p.position) refl h
   where
-    by_value : (f : FoundValue) → f ≡ value_at xs p.position → Small (opened_by xs (meaning_of p.operator (get_or kinds p.index 0)) f)
-    by_value (FoundValue.Value v) e =
+    by_value : (f : FoundValue) → f ≡ value_at xs p.position → opened_by xs (meaning_of p.operator (get_or kinds p.index 0)) f ≡ Some o → Small o
+    by_value (FoundValue.Value v) e i =
         let q : PlacedValue xs v = value-at-placed xs p.position (FoundValue.Value v) v e refl in
-        record { sane = sane_for (meaning_of p.operator (get_or kinds p.index 0)) (value_in xs v); start_most = omega (arith, q.order, q.within, l); end_most = omega (arith, q.within, l) }
-    by_value FoundValue.Nothing e = closed_small
+        subst Small (same_Some _ o i)
+        (record { sane = sane_for (meaning_of p.operator (get_or kinds p.index 0)) (value_in xs v); start_most = omega (arith, q.order, q.within, l); end_most = omega (arith, q.within, l) })
+    by_value FoundValue.Nothing e i = absurd (none-some o i)
 
-pub row_small : (kinds xs : List ℕ) (c : ℕ) → length xs ≤ 1024 → Small (opened_row kinds xs c)
+row_small : (kinds xs : List ℕ) (c : ℕ) (o : Opened) → opened_row kinds xs c ≡ Some o → length xs ≤ 1024 → Small o
 unfolding opened_row
-row_small kinds xs c l = by_row (row_of c)
+row_small kinds xs c o h l = by_row (row_of c) h
   where
-    by_row : (r : Row) → Small (opened_in kinds xs r)
-    by_row (Row.Test p) = for_small kinds xs p l
-    by_row (Row.Bracket n) = closed_small
-    by_row Row.Not = closed_small
-    by_row (Row.Connect a n) = closed_small
-    by_row Row.Unknown = closed_small
+    by_row : (r : Row) → opened_in kinds xs r ≡ Some o → Small o
+    by_row (Row.Test p) i = for_small kinds xs p o i l
+    by_row (Row.Bracket n) i = absurd (none-some o i)
+    by_row Row.Not i = absurd (none-some o i)
+    by_row (Row.Connect a n) i = absurd (none-some o i)
+    by_row Row.Unknown i = absurd (none-some o i)
 
-pub opened_small : (kinds xs : List ℕ) (c : ℕ) (o : Opened) → o ≡ opened_row kinds xs c → length xs ≤ 1024 → Small o
-opened_small kinds xs c o e l = subst Small (sym e) (row_small kinds xs c l)
+pub opened_small : (kinds xs : List ℕ) (c : ℕ) (r : Option Opened) (o : Opened) → r ≡ opened_row kinds xs c → r ≡ Some o → length xs ≤ 1024 → Small o
+opened_small kinds xs c r o e h l = row_small kinds xs c o (sym e ∙ h) l
 
 -- ---- cells stand for what was opened
 
@@ -119,28 +115,30 @@ flag_back : (b : Bool) (n : ℕ) → n ≡ bit b → eqb n 1 ≡ b
 flag_back true n e = eq-eqb n 1 e
 flag_back false n e = ne_eqb n 1 (λ z. omega (arith, e, z))
 
-opened-same : {f g : Bool} {e h : Bool} {t u : Bool} {a b : ℕ} {c d : ℕ} {x y : Option Decimal} {p q : Option Date} → f ≡ g → e ≡ h → t ≡ u → a ≡ b → c ≡ d → x ≡ y → p ≡ q
-    → ◌≡◌ {A = Opened} (record { found = f; escaped = e; truth = t; start = a; end = c; readings = record { number = x; date = p } }) (record { found = g; escaped = h; truth = u; start = b; end = d; readings = record { number = y; date = q } })
+opened-same : {f : Bool} {e h : Bool} {t u : Bool} {a b : ℕ} {c d : ℕ} {x y : Option Decimal} {p q : Option Date} → f ≡ true → e ≡ h → t ≡ u → a ≡ b → c ≡ d → x ≡ y → p ≡ q
+    → ◌≡◌ {A = Option Opened} (cond f (Some (record { escaped = e; truth = t; start = a; end = c; readings = record { number = x; date = p } })) None) (Some (record { escaped = h; truth = u; start = b; end = d; readings = record { number = y; date = q } }))
 opened-same i j k l m n o = rw (i, j, k, l, m, n, o)
 
-pub cells-back : (o : Opened) → Small o → opened_from (span_of o) (digits_of o.readings.number) (start_of o.readings.date) (end_of o.readings.date) ≡ o
+pub cells-back : (o : Opened) → Small o → opened_from (span_of o) (digits_of o.readings.number) (start_of o.readings.date) (end_of o.readings.date) ≡ Some o
 unfolding opened_from span_of
 cells-back o s =
-    let f : ℕ = bit o.found in
     let e : ℕ = bit o.escaped in
     let t : ℕ = bit o.truth in
     let m : ℕ = mark_of o.readings.number o.readings.date in
-    let n : ℕ = f + 2 * (e + 2 * (t + 2 * (m + 16 * (o.start + 2048 * o.end)))) in
-    let f1 : f ≤ 1 = bit_most o.found in
+    let n : ℕ = 1 + 2 * (e + 2 * (t + 2 * (m + 16 * (o.start + 2048 * o.end)))) in
     let e1 : e ≤ 1 = bit_most o.escaped in
     let t1 : t ≤ 1 = bit_most o.truth in
     let m1 : m ≤ 11 = mark_most o.readings.number o.readings.date s.sane in
-    let mark : n / 8 % 16 ≡ m = omega (arith, f1, e1, t1, m1) in
-    let start : n / 128 % 2048 ≡ o.start = omega (arith, f1, e1, t1, m1, s.start_most) in
-    let end : n / 128 / 2048 ≡ o.end = omega (arith, f1, e1, t1, m1, s.start_most) in
+    let mark : n / 8 % 16 ≡ m = omega (arith, e1, t1, m1) in
+    let start : n / 128 % 2048 ≡ o.start = omega (arith, e1, t1, m1, s.start_most) in
+    let end : n / 128 / 2048 ≡ o.end = omega (arith, e1, t1, m1, s.start_most) in
     let number : number_from (n / 8 % 16) (digits_of o.readings.number) ≡ o.readings.number = ap (λ (k : ℕ). number_from k (digits_of o.readings.number)) mark ∙ number-back o.readings.number o.readings.date s.sane in
     let date : date_from (n / 8 % 16) (start_of o.readings.date) (end_of o.readings.date) ≡ o.readings.date = ap (λ (k : ℕ). date_from k (start_of o.readings.date) (end_of o.readings.date)) mark ∙ date-back o.readings.number o.readings.date s.sane in
-    opened-same (flag_back o.found (n % 2) (omega (arith, f1))) (flag_back o.escaped (n / 2 % 2) (omega (arith, f1, e1))) (flag_back o.truth (n / 4 % 2) (omega (arith, f1, e1, t1))) start end number date
+    opened-same (eq-eqb (n % 2) 1 (omega arith)) (flag_back o.escaped (n / 2 % 2) (omega (arith, e1))) (flag_back o.truth (n / 4 % 2) (omega (arith, e1, t1))) start end number date
+
+none_back : (digits : ℕ) (start end : ℤ) → opened_from 0 digits start end ≡ None
+unfolding opened_from
+none_back digits start end = refl
 
 -- ---- lists of cells, two for a row
 
@@ -176,37 +174,63 @@ module _ (kinds xs rows values₀ : List ℕ) (ends₀ : List ℤ) where
   opening_start a b = record { opens = record { room = a; ends_room = b; each = λ j h. absurd (omega (arith, h)) }; within = omega arith; value_length = refl; end_length = refl }
 
   module _ (values : List ℕ) (ends : List ℤ) (i : ℕ) (s : Opening kinds xs rows values₀ ends₀ values ends i) where
-    pub opening_next : i < length rows → length xs ≤ 1024 → (o : Opened) (n d : ℕ) (a b : ℤ) → o ≡ opened_row kinds xs (get_or rows i 0) → n ≡ span_of o → d ≡ digits_of o.readings.number → a ≡ start_of o.readings.date → b ≡ end_of o.readings.date
-        → (y z : ℤ) → y ≡ a → z ≡ b → Opening kinds xs rows values₀ ends₀ (set (set values (2 * i) n) (2 * i + 1) d) (set (set ends (2 * i) y) (2 * i + 1) z) (i + 1)
-    unfolding opened_at
-    opening_next l short o n d a b e en ed ea eb y z ey ez =
-        record {
-          opens = record {
-            room = omega (arith, s.opens.room, pair-length values i n d 0);
-            ends_room = omega (arith, s.opens.ends_room, pair-length ends i y z (pos 0));
-            each = λ j h. by_place j h (eqb j i) refl;
-          };
-          within = omega (arith, l);
-          value_length = pair-length values i n d 0 ∙ s.value_length;
-          end_length = pair-length ends i y z (pos 0) ∙ s.end_length;
-        }
-      where
-        by_place : (j : ℕ) → j < i + 1 → (t : Bool) → eqb j i ≡ t → opened_at (pair values i n d 0) (pair ends i y z (pos 0)) j ≡ opened_row kinds xs (get_or rows j 0)
-        by_place j h true k =
-            let same : j ≡ i = eqb-true j i k in
-            let low : 2 * i + 1 < length values = omega (arith, l, s.opens.room) in
-            let ends_low : 2 * i + 1 < length ends = omega (arith, l, s.opens.ends_room) in
-            subst (λ (m : ℕ). opened_at (pair values i n d 0) (pair ends i y z (pos 0)) m ≡ opened_row kinds xs (get_or rows m 0)) (sym same)
-            (opened-cells (pair-first values i n d 0 low ∙ en) (pair-second values i n d 0 low ∙ ed) (pair-first ends i y z (pos 0) ends_low ∙ ey ∙ ea) (pair-second ends i y z (pos 0) ends_low ∙ ez ∙ eb)
-            ∙ cells-back o (opened_small kinds xs (get_or rows i 0) o e short) ∙ e)
-        by_place j h false k =
-            let other : j ≡ i → ⊥ = eqb-false j i k in
-            let a1 : 2 * j ≡ 2 * i → ⊥ = λ z. other (omega (arith, z)) in
-            let a2 : 2 * j ≡ 2 * i + 1 → ⊥ = λ z. omega (arith, z) in
-            let b1 : 2 * j + 1 ≡ 2 * i → ⊥ = λ z. omega (arith, z) in
-            let b2 : 2 * j + 1 ≡ 2 * i + 1 → ⊥ = λ z. other (omega (arith, z)) in
-            opened-cells (pair_other values i n d 0 (2 * j) a1 a2) (pair_other values i n d 0 (2 * j + 1) b1 b2) (pair_other ends i y z (pos 0) (2 * j) a1 a2) (pair_other ends i y z (pos 0) (2 * j + 1) b1 b2)
-            ∙ s.opens.each j (omega (arith, h, other))
+    module _ (l : i < length rows) (short : length xs ≤ 1024) (r : Option Opened) (e : r ≡ opened_row kinds xs (get_or rows i 0)) where
+      pub opening_next : (o : Opened) (n d : ℕ) (a b : ℤ) → r ≡ Some o → n ≡ span_of o → d ≡ digits_of o.readings.number → a ≡ start_of o.readings.date → b ≡ end_of o.readings.date
+          → (y z : ℤ) → y ≡ a → z ≡ b → Opening kinds xs rows values₀ ends₀ (set (set values (2 * i) n) (2 * i + 1) d) (set (set ends (2 * i) y) (2 * i + 1) z) (i + 1)
+      unfolding opened_at
+      opening_next o n d a b h en ed ea eb y z ey ez =
+          record {
+            opens = record {
+              room = omega (arith, s.opens.room, pair-length values i n d 0);
+              ends_room = omega (arith, s.opens.ends_room, pair-length ends i y z (pos 0));
+              each = λ j h. by_place j h (eqb j i) refl;
+            };
+            within = omega (arith, l);
+            value_length = pair-length values i n d 0 ∙ s.value_length;
+            end_length = pair-length ends i y z (pos 0) ∙ s.end_length;
+          }
+        where
+          by_place : (j : ℕ) → j < i + 1 → (t : Bool) → eqb j i ≡ t → opened_at (pair values i n d 0) (pair ends i y z (pos 0)) j ≡ opened_row kinds xs (get_or rows j 0)
+          by_place j h' true k =
+              let same : j ≡ i = eqb-true j i k in
+              let low : 2 * i + 1 < length values = omega (arith, l, s.opens.room) in
+              let ends_low : 2 * i + 1 < length ends = omega (arith, l, s.opens.ends_room) in
+              subst (λ (m : ℕ). opened_at (pair values i n d 0) (pair ends i y z (pos 0)) m ≡ opened_row kinds xs (get_or rows m 0)) (sym same)
+              (opened-cells (pair-first values i n d 0 low ∙ en) (pair-second values i n d 0 low ∙ ed) (pair-first ends i y z (pos 0) ends_low ∙ ey ∙ ea) (pair-second ends i y z (pos 0) ends_low ∙ ez ∙ eb)
+              ∙ cells-back o (opened_small kinds xs (get_or rows i 0) r o e h short) ∙ sym h ∙ e)
+          by_place j h' false k =
+              let other : j ≡ i → ⊥ = eqb-false j i k in
+              let a1 : 2 * j ≡ 2 * i → ⊥ = λ z. other (omega (arith, z)) in
+              let a2 : 2 * j ≡ 2 * i + 1 → ⊥ = λ z. omega (arith, z) in
+              let b1 : 2 * j + 1 ≡ 2 * i → ⊥ = λ z. omega (arith, z) in
+              let b2 : 2 * j + 1 ≡ 2 * i + 1 → ⊥ = λ z. other (omega (arith, z)) in
+              opened-cells (pair_other values i n d 0 (2 * j) a1 a2) (pair_other values i n d 0 (2 * j + 1) b1 b2) (pair_other ends i y z (pos 0) (2 * j) a1 a2) (pair_other ends i y z (pos 0) (2 * j + 1) b1 b2)
+              ∙ s.opens.each j (omega (arith, h', other))
+
+      -- of a row that has no value the first cell says so
+      pub opening_none : r ≡ None → Opening kinds xs rows values₀ ends₀ (set values (2 * i) 0) ends (i + 1)
+      unfolding opened_at
+      opening_none h =
+          record {
+            opens = record {
+              room = omega (arith, s.opens.room, length-set values (2 * i) 0);
+              ends_room = s.opens.ends_room;
+              each = λ j h. by_place j h (eqb j i) refl;
+            };
+            within = omega (arith, l);
+            value_length = length-set values (2 * i) 0 ∙ s.value_length;
+            end_length = s.end_length;
+          }
+        where
+          by_place : (j : ℕ) → j < i + 1 → (t : Bool) → eqb j i ≡ t → opened_at (set values (2 * i) 0) ends j ≡ opened_row kinds xs (get_or rows j 0)
+          by_place j h' true k =
+              let same : j ≡ i = eqb-true j i k in
+              subst (λ (m : ℕ). opened_at (set values (2 * i) 0) ends m ≡ opened_row kinds xs (get_or rows m 0)) (sym same)
+              (opened-cells (get_or-set_same values (2 * i) 0 0 (omega (arith, l, s.opens.room))) refl refl refl ∙ none_back (get_or (set values (2 * i) 0) (2 * i + 1) 0) (get_or ends (2 * i) (pos 0)) (get_or ends (2 * i + 1) (pos 0)) ∙ sym h ∙ e)
+          by_place j h' false k =
+              let other : j ≡ i → ⊥ = eqb-false j i k in
+              opened-cells (get_or-set_other values (2 * i) (2 * j) 0 0 (λ z. other (omega (arith, z)))) (get_or-set_other values (2 * i) (2 * j + 1) 0 0 (λ z. omega (arith, z))) refl refl
+              ∙ s.opens.each j (omega (arith, h', other))
 
     pub value_room : (n : ℕ) → i < length rows → 2 * i + 1 < length (set values (2 * i) n)
     value_room n l = omega (arith, l, s.opens.room, length-set values (2 * i) n)
@@ -221,51 +245,48 @@ module _ (kinds xs rows values₀ : List ℕ) (ends₀ : List ℤ) where
 
 -- ---- the functions that open a value
 
-pub closed_is : (u : Readings) → u ≡ unread → ◌≡◌ {A = Opened} (record { found = false; escaped = false; truth = false; start = 0; end = 0; readings = u }) closed
-closed_is u e = rw e
-
 pub value_is : (m : Meaning) (v : RawValue) (w : List ℕ) (t : Bool) (r : Readings) → t ≡ is_true w → r ≡ readings_for m w
-    → ◌≡◌ {A = Opened} (record { found = true; escaped = v.escaped; truth = t; start = v.start; end = v.end; readings = r }) (opened_value m v w)
+    → ◌≡◌ {A = Opened} (record { escaped = v.escaped; truth = t; start = v.start; end = v.end; readings = r }) (opened_value m v w)
 unfolding opened_value
 value_is m v w t r e h = rw (e, h)
 
 pub text_placed : (m : Meaning) (xs : List ℕ) (v : RawValue) (o : Opened) (w : List ℕ) → o ≡ opened_value m v w → w ≡ value_in xs v → o ≡ opened_value m v (value_in xs v)
 text_placed m xs v o w e h = e ∙ ap (opened_value m v) h
 
-module _ (kinds xs : List ℕ) (p : Probe) (o : Opened) where
-  pub for_outside : length xs < p.position → o ≡ closed → o ≡ opened_for kinds xs p
+module _ (kinds xs : List ℕ) (p : Probe) where
+  pub for_outside : length xs < p.position → None ≡ opened_for kinds xs p
   unfolding opened_for value_at
-  for_outside h e = rw (le-ltb p.position (length xs) (omega arith)) e
+  for_outside h = rw (le-ltb p.position (length xs) (omega arith))
 
   module _ (f : FoundValue) (e : f ≡ value_at xs p.position) where
-    pub for_nothing : f ≡ FoundValue.Nothing → o ≡ closed → o ≡ opened_for kinds xs p
+    pub for_nothing : f ≡ FoundValue.Nothing → None ≡ opened_for kinds xs p
     unfolding opened_for
-    for_nothing h c = rw (sym e ∙ h) c
+    for_nothing h = rw (sym e ∙ h)
 
-    pub for_value : (v : RawValue) (m : Meaning) (kind : ℕ) → f ≡ FoundValue.Value v → kind ≡ get_or kinds p.index 0 → m ≡ meaning_of p.operator kind → o ≡ opened_value m v (value_in xs v) → o ≡ opened_for kinds xs p
+    pub for_value : (o : Opened) (v : RawValue) (m : Meaning) (kind : ℕ) → f ≡ FoundValue.Value v → kind ≡ get_or kinds p.index 0 → m ≡ meaning_of p.operator kind → o ≡ opened_value m v (value_in xs v) → Some o ≡ opened_for kinds xs p
     unfolding opened_for
-    for_value v m kind h i j c = rw (sym e ∙ h) (c ∙ ap (λ (n : Meaning). opened_value n v (value_in xs v)) (j ∙ ap (meaning_of p.operator) i))
+    for_value o v m kind h i j c = rw (sym e ∙ h) (ap Some (c ∙ ap (λ (n : Meaning). opened_value n v (value_in xs v)) (j ∙ ap (meaning_of p.operator) i)))
 
-module _ (kinds xs : List ℕ) (c : ℕ) (r : Row) (e : r ≡ row_of c) (o : Opened) where
-  pub row_test : (p : Probe) → r ≡ Row.Test p → o ≡ opened_for kinds xs p → o ≡ opened_row kinds xs c
+module _ (kinds xs : List ℕ) (c : ℕ) (r : Row) (e : r ≡ row_of c) where
+  pub row_test : (o : Option Opened) (p : Probe) → r ≡ Row.Test p → o ≡ opened_for kinds xs p → o ≡ opened_row kinds xs c
   unfolding opened_row
-  row_test p h k = rw (sym e ∙ h) k
+  row_test o p h k = rw (sym e ∙ h) k
 
-  pub row_bracket : (n : ℕ) → r ≡ Row.Bracket n → o ≡ closed → o ≡ opened_row kinds xs c
+  pub row_bracket : (n : ℕ) → r ≡ Row.Bracket n → None ≡ opened_row kinds xs c
   unfolding opened_row
-  row_bracket n h k = rw (sym e ∙ h) k
+  row_bracket n h = rw (sym e ∙ h)
 
-  pub row_not : r ≡ Row.Not → o ≡ closed → o ≡ opened_row kinds xs c
+  pub row_not : r ≡ Row.Not → None ≡ opened_row kinds xs c
   unfolding opened_row
-  row_not h k = rw (sym e ∙ h) k
+  row_not h = rw (sym e ∙ h)
 
-  pub row_connect : (a : Connective) (n : ℕ) → r ≡ Row.Connect a n → o ≡ closed → o ≡ opened_row kinds xs c
+  pub row_connect : (a : Connective) (n : ℕ) → r ≡ Row.Connect a n → None ≡ opened_row kinds xs c
   unfolding opened_row
-  row_connect a n h k = rw (sym e ∙ h) k
+  row_connect a n h = rw (sym e ∙ h)
 
-  pub row_unknown : r ≡ Row.Unknown → o ≡ closed → o ≡ opened_row kinds xs c
+  pub row_unknown : r ≡ Row.Unknown → None ≡ opened_row kinds xs c
   unfolding opened_row
-  row_unknown h k = rw (sym e ∙ h) k
+  row_unknown h = rw (sym e ∙ h)
 
 -- ---- the functions that make cells of it, and it of cells
 
@@ -278,9 +299,9 @@ mark_few n d a s h = s.decimals a h
 pub mark-date : (n : Option Decimal) (d : Option Date) (r : ℕ) → n ≡ None → (r ≡ date_mark d) × (r ≤ 11) → (r ≡ mark_of n d) × (r ≤ 11)
 mark-date n d r h e = (rw h e.0, e.1)
 
-pub span_is : (o : Opened) (f e t m : ℕ) → f ≡ bit o.found → e ≡ bit o.escaped → t ≡ bit o.truth → m ≡ mark_of o.readings.number o.readings.date → f + 2 * (e + 2 * (t + 2 * (m + 16 * (o.start + 2048 * o.end)))) ≡ span_of o
+pub span_is : (o : Opened) (e t m : ℕ) → e ≡ bit o.escaped → t ≡ bit o.truth → m ≡ mark_of o.readings.number o.readings.date → 1 + 2 * (e + 2 * (t + 2 * (m + 16 * (o.start + 2048 * o.end)))) ≡ span_of o
 unfolding span_of
-span_is o f e t m a b c d = rw (a, b, c, d)
+span_is o e t m b c d = rw (b, c, d)
 
 pub number-known : (mark digits : ℕ) → mark < 10 → Some (record { digits = digits; decimals = mark }) ≡ number_from mark digits
 unfolding number_from
@@ -310,12 +331,16 @@ end_known d a h = rw h
 pub end_none : (d : Option Date) → d ≡ None → pos 0 ≡ end_of d
 end_none d h = rw h
 
-pub from_is : (n digits : ℕ) (start end : ℤ) (x : Option Decimal) (y : Option Date) (a b : ℤ) → x ≡ number_from (n / 8 % 16) digits → y ≡ date_from (n / 8 % 16) a b → a ≡ start → b ≡ end
-    → ◌≡◌ {A = Opened} (record { found = eqb (n % 2) 1; escaped = eqb (n / 2 % 2) 1; truth = eqb (n / 4 % 2) 1; start = n / 128 % 2048; end = n / 128 / 2048; readings = record { number = x; date = y } }) (opened_from n digits start end)
+pub from_none : (n digits : ℕ) (start end : ℤ) → (n % 2 ≡ 1 → ⊥) → None ≡ opened_from n digits start end
 unfolding opened_from
-from_is n digits start end x y a b e h i j = rw (e, h ∙ ap₂ (date_from (n / 8 % 16)) i j)
+from_none n digits start end h = rw (ne_eqb (n % 2) 1 h)
 
-pub at_is : (values : List ℕ) (ends : List ℤ) (i : ℕ) (a b : ℤ) (o : Opened) → o ≡ opened_from (get_or values (2 * i) 0) (get_or values (2 * i + 1) 0) a b → a ≡ get_or ends (2 * i) (pos 0) → b ≡ get_or ends (2 * i + 1) (pos 0) → o ≡ opened_at values ends i
+pub from_is : (n digits : ℕ) (start end : ℤ) (x : Option Decimal) (y : Option Date) (a b : ℤ) → n % 2 ≡ 1 → x ≡ number_from (n / 8 % 16) digits → y ≡ date_from (n / 8 % 16) a b → a ≡ start → b ≡ end
+    → ◌≡◌ {A = Option Opened} (Some (record { escaped = eqb (n / 2 % 2) 1; truth = eqb (n / 4 % 2) 1; start = n / 128 % 2048; end = n / 128 / 2048; readings = record { number = x; date = y } })) (opened_from n digits start end)
+unfolding opened_from
+from_is n digits start end x y a b f e h i j = rw (eq-eqb (n % 2) 1 f, e, h ∙ ap₂ (date_from (n / 8 % 16)) i j)
+
+pub at_is : (values : List ℕ) (ends : List ℤ) (i : ℕ) (a b : ℤ) (o : Option Opened) → o ≡ opened_from (get_or values (2 * i) 0) (get_or values (2 * i + 1) 0) a b → a ≡ get_or ends (2 * i) (pos 0) → b ≡ get_or ends (2 * i + 1) (pos 0) → o ≡ opened_at values ends i
 unfolding opened_at
 at_is values ends i a b o e h k = e ∙ ap₂ (opened_from (get_or values (2 * i) 0) (get_or values (2 * i + 1) 0)) h k
 

@@ -1,13 +1,12 @@
 -- What the value of a test reads to, opened once for many cards, and the cells that have it.
 -- Assumes nothing.
-use Rattle.std.specs.Prelude.{ℕ, ◌+◌, ◌*◌, ◌/◌, ◌%◌, ◌≤◌, ◌<◌, ◌≡◌, true, false, cond, List, eqb, ltb, ℤ, pos, length, get_or, Option, Some, None}
+use Rattle.std.specs.Prelude.{ℕ, ◌+◌, ◌*◌, ◌/◌, ◌%◌, ◌≤◌, ◌<◌, ◌≡◌, cond, List, eqb, ltb, ℤ, pos, length, get_or, Option, Some, None}
 use Rattle.base.specs.Parts.{part}
 use Rattle.syntax.specs.Scan.{value_at, contents}
 use Rattle.syntax.specs.declared.RawValue.{RawValue}
 use Rattle.syntax.specs.declared.FoundValue.{FoundValue}
 use Rattle.kind.specs.Table.{meaning_of}
 use Rattle.kind.specs.Readable.{is_true}
-use Rattle.kind.specs.Relations.{unread}
 use Rattle.kind.specs.declared.Meaning.{Meaning}
 use Rattle.judge.specs.Once.{readings_for}
 use Rattle.rows.specs.Cells.{row_of}
@@ -20,29 +19,26 @@ use Rattle.date.specs.declared.Date.{Date}
 
 -- ---- the value of a test
 
--- of a row that has no value
-abbrev pub closed : Opened
-closed = record { found = false; escaped = false; truth = false; start = 0; end = 0; readings = unread }
-
 -- of a value of the text with these bytes
 unfoldable pub opened_value : Meaning → RawValue → List ℕ → Opened
-opened_value m v w = record { found = true; escaped = v.escaped; truth = is_true w; start = v.start; end = v.end; readings = readings_for m w }
+opened_value m v w = record { escaped = v.escaped; truth = is_true w; start = v.start; end = v.end; readings = readings_for m w }
 
-abbrev pub opened_by : List ℕ → Meaning → FoundValue → Opened
-opened_by xs m (FoundValue.Value v) = opened_value m v (value_in xs v)
-opened_by xs m FoundValue.Nothing = closed
+abbrev pub opened_by : List ℕ → Meaning → FoundValue → Option Opened
+opened_by xs m (FoundValue.Value v) = Some (opened_value m v (value_in xs v))
+opened_by xs m FoundValue.Nothing = None
 
-unfoldable pub opened_for : List ℕ → List ℕ → Probe → Opened
+unfoldable pub opened_for : List ℕ → List ℕ → Probe → Option Opened
 opened_for kinds xs p = opened_by xs (meaning_of p.operator (get_or kinds p.index 0)) (value_at xs p.position)
 
-abbrev pub opened_in : List ℕ → List ℕ → Row → Opened
+-- only the row of a test has a value
+abbrev pub opened_in : List ℕ → List ℕ → Row → Option Opened
 opened_in kinds xs (Row.Test p) = opened_for kinds xs p
-opened_in kinds xs (Row.Bracket n) = closed
-opened_in kinds xs Row.Not = closed
-opened_in kinds xs (Row.Connect a n) = closed
-opened_in kinds xs Row.Unknown = closed
+opened_in kinds xs (Row.Bracket n) = None
+opened_in kinds xs Row.Not = None
+opened_in kinds xs (Row.Connect a n) = None
+opened_in kinds xs Row.Unknown = None
 
-unfoldable pub opened_row : List ℕ → List ℕ → ℕ → Opened
+unfoldable pub opened_row : List ℕ → List ℕ → ℕ → Option Opened
 opened_row kinds xs c = opened_in kinds xs (row_of c)
 
 -- the bytes of a value that was opened
@@ -55,7 +51,7 @@ pub record Known (xs : List ℕ) (m : Meaning) (o : Opened) : Type 0 where
   pub within : o.end ≤ length xs
   pub read : o.readings ≡ readings_for m (value_of xs o)
 
--- ---- its cells: flags, a mark for what it reads to, and where it stands; a number's digits; a date's ends
+-- ---- its cells: that there is one, flags, a mark for what it reads to, and where it stands; a number's digits; a date's ends
 
 -- a number's count of decimals; 10 for a date, 11 for neither
 abbrev pub date_mark : Option Date → ℕ
@@ -79,7 +75,7 @@ end_of (Some d) = d.end
 end_of None = pos 0
 
 unfoldable pub span_of : Opened → ℕ
-span_of o = bit o.found + 2 * (bit o.escaped + 2 * (bit o.truth + 2 * (mark_of o.readings.number o.readings.date + 16 * (o.start + 2048 * o.end))))
+span_of o = 1 + 2 * (bit o.escaped + 2 * (bit o.truth + 2 * (mark_of o.readings.number o.readings.date + 16 * (o.start + 2048 * o.end))))
 
 -- what cells stand for
 unfoldable pub number_from : ℕ → ℕ → Option Decimal
@@ -88,20 +84,21 @@ number_from mark digits = cond (ltb mark 10) (Some (record { digits = digits; de
 unfoldable pub date_from : ℕ → ℤ → ℤ → Option Date
 date_from mark start end = cond (eqb mark 10) (Some (record { start = start; end = end })) None
 
-unfoldable pub opened_from : ℕ → ℕ → ℤ → ℤ → Opened
+unfoldable pub opened_from : ℕ → ℕ → ℤ → ℤ → Option Opened
 opened_from n digits start end =
-    record {
-      found = eqb (n % 2) 1;
+    cond (eqb (n % 2) 1)
+    (Some (record {
       escaped = eqb (n / 2 % 2) 1;
       truth = eqb (n / 4 % 2) 1;
       start = n / 128 % 2048;
       end = n / 128 / 2048;
       readings = record { number = number_from (n / 8 % 16) digits; date = date_from (n / 8 % 16) start end };
-    }
+    }))
+    None
 
 -- ---- the lists of cells: two of each for a row, flags and digits in one list, a date's ends in the other
 
-unfoldable pub opened_at : List ℕ → List ℤ → ℕ → Opened
+unfoldable pub opened_at : List ℕ → List ℤ → ℕ → Option Opened
 opened_at values ends j = opened_from (get_or values (2 * j) 0) (get_or values (2 * j + 1) 0) (get_or ends (2 * j) (pos 0)) (get_or ends (2 * j + 1) (pos 0))
 
 -- of the first n rows

@@ -6,11 +6,10 @@ mod store;
 use kind::Readings;
 pub use store::{open_rows, opened_at};
 
-// What the value of a test reads to: whether there is one and it has escapes; whether it is true, for pr; where its bytes stand in the
-// text; and what they read to.
+// What the value of a test reads to: whether it has escapes; whether it is true, for pr; where its bytes stand in the text; and what they
+// read to.
 #[derive(Clone, Copy)]
 pub struct Opened {
-    pub found: bool,
     pub escaped: bool,
     pub truth: bool,
     pub start: usize,

@@ -2,7 +2,7 @@
 ghost use Rattle.std.specs.Prelude.{◌≡◌, ◌+◌, ◌*◌, ◌≤◌, ◌<◌, length};
 ghost use Rattle.syntax.specs.Placed.{PlacedValue};
 ghost use Rattle.rows.specs.Shapes.{value_in};
-ghost use Rattle.row_opener.specs.Opening.{closed, opened_value, opened_for, opened_row, date_mark, mark_of, digits_of, start_of, end_of, span_of, number_from, date_from, opened_from, opened_at, Opens};
+ghost use Rattle.row_opener.specs.Opening.{opened_value, opened_for, opened_row, date_mark, mark_of, digits_of, start_of, end_of, span_of, number_from, date_from, opened_from, opened_at, Opens};
 ghost use Rattle.row_opener.specs.Packing.{Sane, Small};
 
 use crate::Opened;
@@ -16,26 +16,11 @@ use syntax::{FoundValue, RawValue};
 
 // ---- the value of a test
 
-// Of a row that has no value.
-fn closed() -> Opened
-    ensures { result ≡ closed }
-{
-    Opened {
-        found: false,
-        escaped: false,
-        truth: false,
-        start: 0,
-        end: 0,
-        readings: kind::unread(),
-    }
-}
-
 // Of a value of the text with these bytes.
 fn opened_value(meaning: Meaning, value: RawValue, bytes: &[u8]) -> Opened
     ensures { result ≡ opened_value meaning value bytes.now }
 {
     Opened {
-        found: true,
         escaped: value.escaped,
         truth: kind::is_true(bytes),
         start: value.start,
@@ -60,8 +45,8 @@ fn opened_text(meaning: Meaning, filter: &[u8], value: RawValue) -> Opened
     opened_value(meaning, value, &filter[start..end])
 }
 
-// Of a test.
-fn opened_probe(kinds: &[u8], filter: &[u8], probe: Probe) -> Opened
+// Of a test, if it has a value.
+fn opened_probe(kinds: &[u8], filter: &[u8], probe: Probe) -> Option<Opened>
     requires kinds_len { length kinds.now ≡ 32 }
     requires filter_len_bound { length filter.now ≤ 1024 }
     requires index_bound { probe.index < 32 }
@@ -70,29 +55,29 @@ fn opened_probe(kinds: &[u8], filter: &[u8], probe: Probe) -> Opened
     let index = probe.index as usize;
     let kind = kinds[index];
     if probe.position > filter.len() {
-        return closed();
+        return None;
     }
     match read_value(filter, probe.position) {
         FoundValue::Value(value) => {
             let meaning = kind::meaning_of(probe.operator, kind);
-            opened_text(meaning, filter, value)
+            Some(opened_text(meaning, filter, value))
         }
-        FoundValue::Nothing => closed(),
+        FoundValue::Nothing => None,
     }
 }
 
-// Of a row.
-fn opened_row(kinds: &[u8], filter: &[u8], cell: u32) -> Opened
+// Of a row: only that of a test has a value.
+fn opened_row(kinds: &[u8], filter: &[u8], cell: u32) -> Option<Opened>
     requires kinds_len { length kinds.now ≡ 32 }
     requires filter_len_bound { length filter.now ≤ 1024 }
     ensures { result ≡ opened_row kinds.now filter.now cell }
 {
     match row_of(cell) {
         Row::Test(probe) => opened_probe(kinds, filter, probe),
-        Row::Bracket(_) => closed(),
-        Row::Not => closed(),
-        Row::Connect(_, _) => closed(),
-        Row::Unknown => closed(),
+        Row::Bracket(_) => None,
+        Row::Not => None,
+        Row::Connect(_, _) => None,
+        Row::Unknown => None,
     }
 }
 
@@ -157,7 +142,7 @@ fn end_of(date: Option<Date>) -> i64
     }
 }
 
-// Flags, the mark and where the value stands, in one cell.
+// Flags, the mark and where the value stands, in one cell; its lowest bit says that there is a value.
 fn span_of(opened: Opened) -> u32
     requires { Small opened }
     ensures { result ≡ span_of opened }
@@ -169,9 +154,8 @@ fn span_of(opened: Opened) -> u32
     let start = opened.start as u32;
     let end = opened.end as u32;
     let place = mark + 16 * (start + 2048 * end);
-    let found = bit(opened.found);
     let escaped = bit(opened.escaped);
-    found + 2 * (escaped + 2 * (bit(opened.truth) + 2 * place))
+    1 + 2 * (escaped + 2 * (bit(opened.truth) + 2 * place))
 }
 
 // The number that a mark and digits stand for.
@@ -198,12 +182,14 @@ fn date_from(mark: u64, start: i64, end: i64) -> Option<Date>
 }
 
 // What cells stand for.
-fn opened_from(span: u64, digits: u64, start: i64, end: i64) -> Opened
+fn opened_from(span: u64, digits: u64, start: i64, end: i64) -> Option<Opened>
     ensures { result ≡ opened_from span digits start end }
 {
+    if span % 2 != 1 {
+        return None;
+    }
     let mark = span / 8 % 16;
-    Opened {
-        found: span % 2 == 1,
+    Some(Opened {
         escaped: span / 2 % 2 == 1,
         truth: span / 4 % 2 == 1,
         start: (span / 128 % 2048) as usize,
@@ -212,11 +198,11 @@ fn opened_from(span: u64, digits: u64, start: i64, end: i64) -> Opened
             number: number_from(mark, digits),
             date: date_from(mark, start, end),
         },
-    }
+    })
 }
 
-// The value of the row at i.
-pub fn opened_at(values: &[u64], ends: &[i64], i: usize) -> Opened
+// The value of the row at i, if it has one.
+pub fn opened_at(values: &[u64], ends: &[i64], i: usize) -> Option<Opened>
     requires i_in_bounds { 2 * i + 1 < length values.now }
     requires i_in_bounds_2 { 2 * i + 1 < length ends.now }
     ensures { result ≡ opened_at values.now ends.now i }
@@ -235,15 +221,19 @@ pub fn open_rows(kinds: &[u8], filter: &[u8], rows: &[u32], values: &mut [u64], 
 {
     let mut i = 0;
     while i < rows.len() {
-        let opened = opened_row(kinds, filter, rows[i]);
-        let readings = opened.readings;
-        let number = readings.number;
-        let date = readings.date;
         let cell = 2 * i;
-        values[cell] = span_of(opened) as u64;
-        values[cell + 1] = digits_of(number);
-        ends[cell] = start_of(date);
-        ends[cell + 1] = end_of(date);
+        match opened_row(kinds, filter, rows[i]) {
+            Some(opened) => {
+                let readings = opened.readings;
+                let number = readings.number;
+                let date = readings.date;
+                values[cell] = span_of(opened) as u64;
+                values[cell + 1] = digits_of(number);
+                ends[cell] = start_of(date);
+                ends[cell + 1] = end_of(date);
+            }
+            None => values[cell] = 0,
+        }
         i += 1;
     }
 }

@@ -8,8 +8,8 @@ use Rattle.rows.proofs.Cells.{test_index}
 use Rattle.row_judge.proofs.Saying.{brackets_start, brackets_end, brackets_size, brackets_room, brackets_byte, brackets_yes, brackets_behind, brackets_less, brackets_next, telling_start, telling_end, step_test, step_not, step_connect, step_unknown, bracket_room, part-size, bracket_ready, step_bracket, ready-value, ready_end, ready_test, ready_kept, bracketed_value, bracketed_end, bracketed_inner, bracketed_index, bracketed_chain, bracket_known, bracket_closed}
 use Rattle.row_judge.proofs.says.+saying.Goals as goal
 
-pub bracket_says-opened_at-opened-requires : goal.bracket_says-opened_at-opened-requires
-bracket_says-opened_at-opened-requires t c = search (bracketed_value, bracketed_end, rules)
+pub bracket_says-opened_at-requires : goal.bracket_says-opened_at-requires
+bracket_says-opened_at-requires t c = search (bracketed_value, bracketed_end, rules)
 
 pub bracket_says-kind_at-requires : goal.bracket_says-kind_at-requires
 bracket_says-kind_at-requires t c = search (bracketed_index, rules)
@@ -77,11 +77,11 @@ bracket_says-loop-next-smaller t c = brackets_less _ _ _ _ _ _ _ _ _ _ _ _ c.loo
 pub bracket_says-loop-next-preserved : goal.bracket_says-loop-next-preserved
 bracket_says-loop-next-preserved t c = brackets_next _ _ _ _ _ _ _ _ _ _ _ _ c.loop-next.invariant c.loop-next-test.true _ c.occurrence_of.ensures _ c.rows_say.ensures _ c.chain_behind-behind.ensures _ c.next_text-next-in-loop-next.ensures c.if-rows_say.false
 
-pub bracket_says-returns-then-opened : goal.bracket_says-returns-then-opened
-bracket_says-returns-then-opened t c = search (brackets_end, rules)
-
 pub bracket_says-returns : goal.bracket_says-returns
-bracket_says-returns t c = search (bracket_closed, rules)
+bracket_says-returns t c = search (brackets_end, rules)
+
+pub bracket_says-returns-in_default : goal.bracket_says-returns-in_default
+bracket_says-returns-in_default t c = search (bracket_closed, rules)
 
 pub rows_say-loop-at-init : goal.rows_say-loop-at-init
 rows_say-loop-at-init t c = search (telling_start, rules)

@@ -9,8 +9,8 @@ next_text-first-requires-clause-on_chain c = search (test_chain, rules)
 pub next_text-first-requires-clause-known : goal.next_text-first-requires-clause-known
 next_text-first-requires-clause-known c = search (probe_known, rules)
 
-pub returns-then-opened : goal.returns-then-opened
-returns-then-opened c = search (test_opened, rules)
+pub returns-in_default : goal.returns-in_default
+returns-in_default c = search (plain_closed, rules)
 
 pub returns : goal.returns
-returns c = search (plain_closed, rules)
+returns c = search (test_opened, rules)
