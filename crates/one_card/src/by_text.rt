@@ -11,7 +11,7 @@ use crate::{CardAcceptance, CardVerdict, accept_card};
 use block::Validity;
 use filter::top;
 use judge::Chosen;
-use text_judge::{Judged, judge_filter};
+use text_judge::judge_filter;
 
 // What a filter that check has passed says of a well-formed card.
 fn text_says(sheet: &[u8], filter: &[u8], card: &[u8]) -> bool
@@ -24,10 +24,9 @@ fn text_says(sheet: &[u8], filter: &[u8], card: &[u8]) -> bool
         all: true,
         occurrence: 0,
     };
-    let judged = judge_filter(true, sheet, card, every, filter, spot);
-    match judged {
-        Judged::Done(_, says) => says,
-        Judged::Nothing => false,
+    match judge_filter(true, sheet, card, every, filter, spot) {
+        Some(judged) => judged.says,
+        None => false,
     }
 }
 

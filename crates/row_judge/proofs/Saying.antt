@@ -4,11 +4,13 @@
 -- verdict of a test after brackets, by the set of the entries that are kept, is found from whether there is an entry that counts and of
 -- whose occurrence the rows in the brackets say yes (`each_is`, from `entry_is`, by induction on the entries).
 -- Assumes nothing.
+use Rattle.std.specs.Prelude.{Option, Some, None}
 use Prim.Native.Nat.{ℕ, zero, suc, ◌+◌, ◌*◌, ◌-◌, ◌/◌, ◌≤◌, ◌<◌}
 use native.Mathlib.Omega.{arith}
 use mathlib.Core.Path.{◌≡◌, refl, sym, ap, ap₂, subst, ◌∙◌}
 use mathlib.Core.Bool.{Bool, true, false, cond, not, ◌&&◌, ◌||◌}
-use mathlib.Core.Option.{Option, none, some, none-ne-some, some-injective}
+use mathlib.Core.Option as maybe
+use mathlib.Core.Option.{none, some, none-ne-some, some-injective}
 use mathlib.Core.List.{List, [], ◌∷◌, ◌++◌, append-nil, append_assoc}
 use lib.Dec.{eqb, ltb}
 use lib.IntN.{ℤ}
@@ -23,7 +25,6 @@ use Rattle.syntax.specs.Placed.{PlacedValue}
 use Rattle.syntax.specs.declared.Connective.{Connective}
 use Rattle.syntax.specs.Scan.{value_at, contents, decode, Decoded}
 use Rattle.syntax.specs.declared.RawValue.{RawValue}
-use Rattle.syntax.specs.declared.FoundValue.{FoundValue}
 use Rattle.syntax.proofs.Places.{value-at-placed}
 use Rattle.kind.specs.Table.{meaning_of}
 use Rattle.kind.specs.Readable.{is_true}
@@ -93,9 +94,9 @@ module _ (kinds xs : List ℕ) (k : Chosen) (all : List Entry) (p : Probe) where
       same : (o : ℕ) → counts k o ≡ true → occurrence_says kinds xs all cs o ≡ kept o
       same o c = rows_are kinds xs e cs (of_occurrence o all) h ∙ ap (λ (l : List Entry). expression_says kinds xs l e) (sym (occurrence_whole k o all c))
 
-      by_value : (f : FoundValue) → probe_says_each_by f (get_or kinds p.index 0) kinds xs cs p k all ≡ probe_says_by f (get_or kinds p.index 0) xs p (keep (λ n. kept n.occurrence) (chosen_of k all))
-      by_value (FoundValue.Value v) = each_is (occurrence_says kinds xs all cs) kept same (get_or kinds p.index 0) v
-      by_value FoundValue.Nothing = refl
+      by_value : (f : Option RawValue) → probe_says_each_by f (get_or kinds p.index 0) kinds xs cs p k all ≡ probe_says_by f (get_or kinds p.index 0) xs p (keep (λ n. kept n.occurrence) (chosen_of k all))
+      by_value (Some v) = each_is (occurrence_says kinds xs all cs) kept same (get_or kinds p.index 0) v
+      by_value None = refl
 
 -- ---- entry by entry from the last to the first
 
@@ -198,7 +199,7 @@ module _ (kinds xs : List ℕ) (p : Probe) (o : Opened) (e : o ≡ opened_for ki
   record Told (m : Meaning) : Type 0 where
     known : Known xs m o
     value : RawValue
-    found : value_at xs p.position ≡ FoundValue.Value value
+    found : value_at xs p.position ≡ Some value
     same : value_of xs o ≡ value_in xs value
     truth : o.truth ≡ is_true (value_in xs value)
 
@@ -206,8 +207,8 @@ module _ (kinds xs : List ℕ) (p : Probe) (o : Opened) (e : o ≡ opened_for ki
   unfolding opened_for opened_value value_of
   told h = by_value (value_at xs p.position) refl
     where
-      by_value : (f : FoundValue) → value_at xs p.position ≡ f → Told (meaning_of p.operator (get_or kinds p.index 0))
-      by_value (FoundValue.Value v) i =
+      by_value : (f : Option RawValue) → value_at xs p.position ≡ f → Told (meaning_of p.operator (get_or kinds p.index 0))
+      by_value (Some v) i =
           let is : o ≡ opened_value (meaning_of p.operator (get_or kinds p.index 0)) v (value_in xs v) = e ∙ ap (opened_by xs (meaning_of p.operator (get_or kinds p.index 0))) i in
           let q : PlacedValue xs v = value-at-placed xs p.position (value_at xs p.position) v refl i in
           record {
@@ -217,7 +218,7 @@ module _ (kinds xs : List ℕ) (p : Probe) (o : Opened) (e : o ≡ opened_for ki
             same = rw is;
             truth = rw is;
           }
-      by_value FoundValue.Nothing i =
+      by_value None i =
           let none : false ≡ true = sym (ap (λ (q : Opened). q.found) (e ∙ ap (opened_by xs (meaning_of p.operator (get_or kinds p.index 0))) i)) ∙ h in
           absurd (let z : ◌≡◌ {A = ℕ} 0 1 = cc in omega arith)
 
@@ -225,15 +226,15 @@ module _ (kinds xs : List ℕ) (p : Probe) (o : Opened) (e : o ≡ opened_for ki
   probe_known m kind h i j = subst (λ (n : Meaning). Known xs n o) (sym (j ∙ ap (meaning_of p.operator) i)) (told h).known
 
   -- where none is opened there is none
-  none_told : o.found ≡ false → value_at xs p.position ≡ FoundValue.Nothing
+  none_told : o.found ≡ false → value_at xs p.position ≡ None
   unfolding opened_for opened_value
   none_told h = by_value (value_at xs p.position) refl
     where
-      by_value : (f : FoundValue) → value_at xs p.position ≡ f → f ≡ FoundValue.Nothing
-      by_value (FoundValue.Value v) i =
+      by_value : (f : Option RawValue) → value_at xs p.position ≡ f → f ≡ None
+      by_value (Some v) i =
           let some : true ≡ false = sym (ap (λ (q : Opened). q.found) (e ∙ ap (opened_by xs (meaning_of p.operator (get_or kinds p.index 0))) i)) ∙ h in
           absurd (let z : ◌≡◌ {A = ℕ} 0 1 = cc in omega arith)
-      by_value FoundValue.Nothing i = refl
+      by_value None i = refl
 
   -- a test without brackets
   module _ (es : List Entry) where
@@ -328,24 +329,24 @@ decided_not Connective.And false b h = both_ways refl h
 decided_not Connective.Or true b h = both_ways refl h
 decided_not Connective.Or false b h = refl
 
-abbrev when_stated : Option Expression → Option Bool → Option Bool
+abbrev when_stated : maybe.Option Expression → maybe.Option Bool → maybe.Option Bool
 when_stated none then = none
 when_stated (some e) then = then
 
 module _ (kinds xs : List ℕ) (k : Chosen) (all : List Entry) where
   -- brackets with n rows in them, by the row of the test
-  abbrev tell_test : (ℕ → Bool → Option Bool) → ℕ → List ℕ → Row → Option Bool
+  abbrev tell_test : (ℕ → Bool → maybe.Option Bool) → ℕ → List ℕ → Row → maybe.Option Bool
   tell_test go n cs (Row.Test p) = when_stated (stated (take n cs)) (go n (probe_says_each kinds xs (take n cs) p k all))
   tell_test go n cs (Row.Bracket m) = none
   tell_test go n cs Row.Not = none
   tell_test go n cs (Row.Connect c m) = none
   tell_test go n cs Row.Unknown = none
 
-  abbrev tell_brackets : (ℕ → Bool → Option Bool) → ℕ → List ℕ → Option Bool
+  abbrev tell_brackets : (ℕ → Bool → maybe.Option Bool) → ℕ → List ℕ → maybe.Option Bool
   tell_brackets go n [] = none
   tell_brackets go n (c ∷ cs) = tell_test (λ m u. go (suc m) u) n cs (row_of c)
 
-  abbrev tell_row : (ℕ → Bool → Option Bool) → Bool → List ℕ → Row → Option Bool
+  abbrev tell_row : (ℕ → Bool → maybe.Option Bool) → Bool → List ℕ → Row → maybe.Option Bool
   tell_row go v cs (Row.Test p) = go 0 (probe_says kinds xs p (chosen_of k all))
   tell_row go v cs (Row.Bracket n) = tell_brackets go n cs
   tell_row go v cs Row.Not = go 0 (not v)
@@ -353,7 +354,7 @@ module _ (kinds xs : List ℕ) (k : Chosen) (all : List Entry) where
   tell_row go v cs Row.Unknown = none
 
   -- the verdict in hand, and all rows behind the next n
-  unfoldable pub tell : ℕ → Bool → List ℕ → Option Bool
+  unfoldable pub tell : ℕ → Bool → List ℕ → maybe.Option Bool
   tell zero v [] = some v
   tell (suc n) v [] = none
   tell zero v (c ∷ cs) = tell_row (λ n u. tell n u cs) v cs (row_of c)
@@ -381,7 +382,7 @@ module _ (kinds xs : List ℕ) (k : Chosen) (all : List Entry) where
       ap (tell_row (λ m u. tell m u (c ∷ (encode e ++ cs))) v (c ∷ (encode e ++ cs))) (row_bracket n)
       ∙ ap (tell_test (λ m u. tell m u (encode e ++ cs)) n (encode e ++ cs)) (row_test p s)
       ∙ ap (λ (l : List ℕ). when_stated (stated l) (tell n (probe_says_each kinds xs l p k all) (encode e ++ cs))) part_is
-      ∙ ap (λ (o : Option Expression). when_stated o (tell n (probe_says_each kinds xs (encode e) p k all) (encode e ++ cs))) (stated-encode e w)
+      ∙ ap (λ (o : maybe.Option Expression). when_stated o (tell n (probe_says_each kinds xs (encode e) p k all) (encode e ++ cs))) (stated-encode e w)
       ∙ tell-part (encode e) (probe_says_each kinds xs (encode e) p k all) cs
       ∙ ap (λ (u : Bool). tell 0 u cs) (bracket_is kinds xs k all p e (encode e) (stated-encode e w))
   tell-encode (negating e) (writable_not w) v cs =
@@ -418,7 +419,7 @@ module _ (kinds xs : List ℕ) (k : Chosen) (all : List Entry) where
       by_row : (q : Row) → row_of c ≡ q → tell_test (λ m u. tell m u cs) n cs q ≡ some r → ToldOf n (c ∷ cs) r
       by_row (Row.Test p) i g = by_stated (stated (take n cs)) refl g
         where
-          by_stated : (o : Option Expression) → stated (take n cs) ≡ o → when_stated o (tell n (probe_says_each kinds xs (take n cs) p k all) cs) ≡ some r → ToldOf n (c ∷ cs) r
+          by_stated : (o : maybe.Option Expression) → stated (take n cs) ≡ o → when_stated o (tell n (probe_says_each kinds xs (take n cs) p k all) cs) ≡ some r → ToldOf n (c ∷ cs) r
           by_stated none j g = absurd (none-ne-some _ g)
           by_stated (some e) j g = record { first = c; rest = cs; are = refl; probe = p; row = i; expression = e; states = j; goes = g }
       by_row (Row.Bracket m) i g = absurd (none-ne-some _ g)

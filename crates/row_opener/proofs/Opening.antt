@@ -4,6 +4,7 @@
 -- places go into one number and come out again by division (`cells-back`). The loop over the rows keeps `Opening`: two lists have the cells
 -- of the rows so far (`Opens`), one row more at each turn (`opening_next`). Parts of rows are opened by parts of the lists.
 -- Assumes nothing.
+use Rattle.std.specs.Prelude.{Option, Some, None}
 use Prim.Native.Nat.{ℕ, ◌+◌, ◌*◌, ◌-◌, ◌/◌, ◌%◌, ◌≤◌, ◌<◌}
 use native.Mathlib.Omega.{arith}
 use mathlib.Core.Path.{◌≡◌, refl, sym, ap, ap₂, subst, ◌∙◌}
@@ -26,7 +27,6 @@ use Rattle.syntax.specs.Placed.{PlacedValue}
 use Rattle.syntax.specs.Scan.{value_at}
 use Rattle.syntax.specs.declared.Connective.{Connective}
 use Rattle.syntax.specs.declared.RawValue.{RawValue}
-use Rattle.syntax.specs.declared.FoundValue.{FoundValue}
 use Rattle.syntax.proofs.Places.{value-at-placed}
 use Rattle.kind.specs.Table.{meaning_of}
 use Rattle.kind.specs.Readable.{is_true}
@@ -73,11 +73,11 @@ for_small : (kinds xs : List ℕ) (p : Probe) → length xs ≤ 1024 → Small (
 unfolding opened_for opened_value
 for_small kinds xs p l = by_value (value_at xs p.position) refl
   where
-    by_value : (f : FoundValue) → f ≡ value_at xs p.position → Small (opened_by xs (meaning_of p.operator (get_or kinds p.index 0)) f)
-    by_value (FoundValue.Value v) e =
-        let q : PlacedValue xs v = value-at-placed xs p.position (FoundValue.Value v) v e refl in
+    by_value : (f : Option RawValue) → f ≡ value_at xs p.position → Small (opened_by xs (meaning_of p.operator (get_or kinds p.index 0)) f)
+    by_value (Some v) e =
+        let q : PlacedValue xs v = value-at-placed xs p.position (Some v) v e refl in
         record { sane = sane_for (meaning_of p.operator (get_or kinds p.index 0)) (value_in xs v); start_most = omega (arith, q.order, q.within, l); end_most = omega (arith, q.within, l) }
-    by_value FoundValue.Nothing e = closed_small
+    by_value None e = closed_small
 
 pub row_small : (kinds xs : List ℕ) (c : ℕ) → length xs ≤ 1024 → Small (opened_row kinds xs c)
 unfolding opened_row
@@ -238,12 +238,12 @@ module _ (kinds xs : List ℕ) (p : Probe) (o : Opened) where
   unfolding opened_for value_at
   for_outside h e = rw (le-ltb p.position (length xs) (omega arith)) e
 
-  module _ (f : FoundValue) (e : f ≡ value_at xs p.position) where
-    pub for_nothing : f ≡ FoundValue.Nothing → o ≡ closed → o ≡ opened_for kinds xs p
+  module _ (f : Option RawValue) (e : f ≡ value_at xs p.position) where
+    pub for_nothing : f ≡ None → o ≡ closed → o ≡ opened_for kinds xs p
     unfolding opened_for
     for_nothing h c = rw (sym e ∙ h) c
 
-    pub for_value : (v : RawValue) (m : Meaning) (kind : ℕ) → f ≡ FoundValue.Value v → kind ≡ get_or kinds p.index 0 → m ≡ meaning_of p.operator kind → o ≡ opened_value m v (value_in xs v) → o ≡ opened_for kinds xs p
+    pub for_value : (v : RawValue) (m : Meaning) (kind : ℕ) → f ≡ Some v → kind ≡ get_or kinds p.index 0 → m ≡ meaning_of p.operator kind → o ≡ opened_value m v (value_in xs v) → o ≡ opened_for kinds xs p
     unfolding opened_for
     for_value v m kind h i j c = rw (sym e ∙ h) (c ∙ ap (λ (n : Meaning). opened_value n v (value_in xs v)) (j ∙ ap (meaning_of p.operator) i))
 

@@ -1,12 +1,11 @@
 -- What the value of a test reads to, opened once for many cards, and the cells that have it.
 -- Assumes nothing.
-use Rattle.std.specs.Prelude.{ℕ, ◌+◌, ◌*◌, ◌/◌, ◌%◌, ◌≤◌, ◌<◌, ◌≡◌, true, false, cond, List, eqb, ltb, ℤ, pos, length, get_or}
+use Rattle.std.specs.Prelude.{ℕ, ◌+◌, ◌*◌, ◌/◌, ◌%◌, ◌≤◌, ◌<◌, ◌≡◌, true, false, cond, List, eqb, ltb, ℤ, pos, length, get_or, Option, Some, None}
 use Rattle.base.specs.Parts.{part}
 use Rattle.number.specs.declared.NumberReading.{NumberReading}
 use Rattle.date.specs.declared.DateReading.{DateReading}
 use Rattle.syntax.specs.Scan.{value_at, contents}
 use Rattle.syntax.specs.declared.RawValue.{RawValue}
-use Rattle.syntax.specs.declared.FoundValue.{FoundValue}
 use Rattle.kind.specs.Table.{meaning_of}
 use Rattle.kind.specs.Readable.{is_true}
 use Rattle.kind.specs.Relations.{unread}
@@ -28,9 +27,9 @@ closed = record { found = false; escaped = false; truth = false; start = 0; end 
 unfoldable pub opened_value : Meaning → RawValue → List ℕ → Opened
 opened_value m v w = record { found = true; escaped = v.escaped; truth = is_true w; start = v.start; end = v.end; readings = readings_for m w }
 
-abbrev pub opened_by : List ℕ → Meaning → FoundValue → Opened
-opened_by xs m (FoundValue.Value v) = opened_value m v (value_in xs v)
-opened_by xs m FoundValue.Nothing = closed
+abbrev pub opened_by : List ℕ → Meaning → Option RawValue → Opened
+opened_by xs m (Some v) = opened_value m v (value_in xs v)
+opened_by xs m None = closed
 
 unfoldable pub opened_for : List ℕ → List ℕ → Probe → Opened
 opened_for kinds xs p = opened_by xs (meaning_of p.operator (get_or kinds p.index 0)) (value_at xs p.position)
