@@ -1,6 +1,6 @@
 -- Check, as the code comes to its answer.
 -- Assumes nothing.
-use Rattle.std.specs.Prelude.{Err, Ok, Result}
+use Rattle.std.specs.Prelude.{Err, Ok, Result, Option, Some, None}
 use Prim.Native.Nat.{ℕ, ◌≤◌, ◌<◌}
 use native.Mathlib.Omega.{arith}
 use mathlib.Core.Path.{◌≡◌, refl, sym, ap, ◌∙◌}
@@ -17,7 +17,8 @@ use Rattle.syntax.specs.Grammar.{deepest, most_tests}
 use Rattle.syntax.specs.Reader.{parsed, filter_at, whole, read}
 use Rattle.syntax.proofs.Whole.{whole_trails, whole_many, whole_few}
 use Rattle.place.specs.Machine.{failure}
-use Rattle.filter.specs.Folds.{summary_of, reading}
+use Rattle.filter.specs.Folds.{summary_of, reading, walked}
+use Rattle.refusal.specs.declared.Decision.{Decision}
 use Rattle.filter.specs.Walks.{top_spot, answer_of}
 use Rattle.filter.specs.declared.Spot.{Spot}
 use Rattle.filter.specs.declared.Summary.{Summary}
@@ -66,35 +67,35 @@ module _ (ps : List Parameter) (xs : List ℕ) (n : length xs ≡ 0 → ⊥) (l 
   unfolding filter_answer refusal_answer
   text_none c e h = h ∙ rw (text_read xs n l none e)
 
-  module _ (spot : Spot) (s : spot ≡ top_spot xs) (w : Walked) (e : w ≡ answer_of Walked.Done Walked.Nothing (reading ps spot.bundle) (filter_at spot.levels xs spot.close spot.at)) where
-    pub text_nothing : (c : Result ℕ Refusal) → w ≡ Walked.Nothing → counted_answer c ≡ refusal_answer (failure deepest most_tests xs) → counted_answer c ≡ filter_answer ps xs
-    text_nothing c h = text_none c (top_read xs spot s ∙ ap (whole xs) (was_none Walked.Done Walked.Nothing walked_cases (reading ps spot.bundle) xs spot.close spot.levels spot.at w e h))
+  module _ (spot : Spot) (s : spot ≡ top_spot xs) (w : Option Walked) (e : w ≡ answer_of walked (reading ps spot.bundle) (filter_at spot.levels xs spot.close spot.at)) where
+    pub text_nothing : (c : Result ℕ Refusal) → w ≡ None → counted_answer c ≡ refusal_answer (failure deepest most_tests xs) → counted_answer c ≡ filter_answer ps xs
+    text_nothing c h = text_none c (top_read xs spot s ∙ ap (whole xs) (was_none walked walked_cases (reading ps spot.bundle) xs spot.close spot.levels spot.at w e h))
 
-    module _ (end : ℕ) (a : Summary) (h : w ≡ Walked.Done end a) (after : ℕ) (t : RunEnd is_space xs end after) where
-      was : WasFilter Walked.Done Walked.Nothing walked_cases (reading ps spot.bundle) xs spot.close spot.levels spot.at end a
-      was = was_filter Walked.Done Walked.Nothing walked_cases (reading ps spot.bundle) xs spot.close spot.levels spot.at w end a e h
+    module _ (r : Walked) (h : w ≡ Some r) (after : ℕ) (t : RunEnd is_space xs r.end after) where
+      was : WasFilter walked walked_cases (reading ps spot.bundle) xs spot.close spot.levels spot.at r.end r.summary
+      was = was_filter walked walked_cases (reading ps spot.bundle) xs spot.close spot.levels spot.at w r.end r.summary e h
 
-      gathered : a ≡ summary_of ps 0 (tests_of was.tree)
+      gathered : r.summary ≡ summary_of ps 0 (tests_of was.tree)
       gathered = was.value ∙ reading_is ps spot.bundle was.tree ∙ ap (λ (c : ℕ). summary_of ps c (tests_of was.tree)) (top-bundle xs spot s)
 
-      tests_are : a.tests ≡ length (tests_of was.tree)
+      tests_are : r.summary.tests ≡ length (tests_of was.tree)
       tests_are = ap (λ (x : Summary). x.tests) gathered
 
-      read_whole : read xs ≡ whole xs (parsed end was.tree)
+      read_whole : read xs ≡ whole xs (parsed r.end was.tree)
       read_whole = top_read xs spot s ∙ ap (whole xs) was.read
 
       pub text_trails : (c : Result ℕ Refusal) → (after ≡ length xs → ⊥) → counted_answer c ≡ refusal_answer (failure deepest most_tests xs) → counted_answer c ≡ filter_answer ps xs
-      text_trails c k = text_none c (read_whole ∙ whole_trails xs end after t was.tree k)
+      text_trails c k = text_none c (read_whole ∙ whole_trails xs r.end after t was.tree k)
 
       module _ (k : after ≡ length xs) where
-        pub text_many : (c : Result ℕ Refusal) → 32 < a.tests → counted_answer c ≡ refusal_answer (failure deepest most_tests xs) → counted_answer c ≡ filter_answer ps xs
-        text_many c m = text_none c (read_whole ∙ whole_many xs end after t was.tree k (omega (arith, tests_are)))
+        pub text_many : (c : Result ℕ Refusal) → 32 < r.summary.tests → counted_answer c ≡ refusal_answer (failure deepest most_tests xs) → counted_answer c ≡ filter_answer ps xs
+        text_many c m = text_none c (read_whole ∙ whole_many xs r.end after t was.tree k (omega (arith, tests_are)))
 
-        pub text_answered : (c : Result ℕ Refusal) → a.tests ≤ 32 → counted_answer c ≡ summary_answer a → counted_answer c ≡ filter_answer ps xs
+        pub text_answered : (c : Result ℕ Refusal) → r.summary.tests ≤ 32 → counted_answer c ≡ summary_answer r.summary → counted_answer c ≡ filter_answer ps xs
         unfolding filter_answer summary_answer tests_step
         text_answered c m g =
-            let r : read xs ≡ some was.tree = read_whole ∙ whole_few xs end after t was.tree k (omega (arith, tests_are)) in
-            g ∙ rw (text_read xs n l (some was.tree) r) (ap (λ (x : Summary). answer (decision_step x.first >>= λ u. found (count x.tests))) gathered)
+            let done : read xs ≡ some was.tree = read_whole ∙ whole_few xs r.end after t was.tree k (omega (arith, tests_are)) in
+            g ∙ rw (text_read xs n l (some was.tree) done) (ap (λ (x : Summary). answer (decision_step x.first >>= λ u. found (count x.tests))) gathered)
 
 -- ---- the sheet
 

@@ -10,7 +10,7 @@ ghost use Rattle.answer.specs.Passing.{summary_answer};
 ghost use Rattle.answer.specs.Operations.{filter_answer, check_answer};
 
 use block::Validity;
-use filter::{Summary, Walked, check_filter, top};
+use filter::{Summary, check_filter, top};
 use place::find_failure;
 use refusal::{Reason, Refusal};
 use syntax::scan::skip;
@@ -53,20 +53,17 @@ fn check_text(sheet: &[u8], filter: &[u8]) -> Result<usize, Refusal>
         return refuse(Reason::FilterSize, 0);
     }
     let spot = top(filter);
-    let walked = check_filter(sheet, filter, spot);
-    match walked {
-        Walked::Done(end, summary) => {
-            let after = skip(filter, end);
-            if after != filter.len() {
-                return no_filter(filter);
-            }
-            if summary.tests > 32 {
-                return no_filter(filter);
-            }
-            outcome(summary)
-        }
-        Walked::Nothing => no_filter(filter),
+    let Some(read) = check_filter(sheet, filter, spot) else {
+        return no_filter(filter);
+    };
+    let after = skip(filter, read.end);
+    if after != filter.len() {
+        return no_filter(filter);
     }
+    if read.summary.tests > 32 {
+        return no_filter(filter);
+    }
+    outcome(read.summary)
 }
 
 // How many tests a filter has, where every test has a meaning on every card that fits the sheet; or why not, and where.

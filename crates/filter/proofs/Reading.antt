@@ -1,6 +1,6 @@
 -- Reading: what is gathered is the number of tests and the first refusal, and it fits.
 -- Assumes nothing.
-use Rattle.std.specs.Prelude.{Result, ⊤}
+use Rattle.std.specs.Prelude.{Result, ⊤, Option, Some}
 use Prim.Native.Nat.{ℕ, suc, ◌+◌, ◌≤◌}
 use native.Mathlib.Omega.{arith}
 use mathlib.Core.Path.{◌≡◌, refl, sym, ap, ap₂, ◌∙◌}
@@ -14,8 +14,7 @@ use Rattle.judge.specs.Sets.{lookup}
 use Rattle.base.specs.Runs.{RunEnd}
 use Rattle.syntax.specs.Scan.{is_space, connective_at}
 use Rattle.syntax.specs.Reader.{item_at, filter_at}
-use Rattle.syntax.specs.declared.Connective.{Connective}
-use Rattle.syntax.specs.declared.FoundConnective.{FoundConnective}
+use Rattle.syntax.specs.declared.Link.{Link}
 use Rattle.syntax.proofs.Complete.{item_rise, filter_rise}
 use Rattle.syntax.proofs.Places.{connective_ahead}
 use Rattle.syntax.proofs.Spelling.{item_count, filter_count}
@@ -23,7 +22,7 @@ use Rattle.refusal.specs.Decisions.{or_else}
 use Rattle.refusal.proofs.Decisions.{or_else_passed, or_else_assoc}
 use Rattle.judge.specs.Faults.{test_fault, first_fault}
 use Rattle.syntax.specs.Fold.{fold_tree}
-use Rattle.filter.specs.Folds.{join_summaries, summary_of, reading}
+use Rattle.filter.specs.Folds.{walked, join_summaries, summary_of, reading}
 use Rattle.filter.specs.Walks.{answer_of}
 use Rattle.filter.specs.declared.Summary.{Summary}
 use Rattle.filter.specs.declared.Walked.{Walked}
@@ -39,14 +38,9 @@ pub summary_test : (ps : List Parameter) (c : ℕ) (t : Test) (f : Result ⊤ Re
 unfolding first_fault
 summary_test ps c t f e = ap (λ (x : Result ⊤ Refusal). record { tests = 1; first = x }) (e ∙ sym (or_else_passed (test_fault ps c t)))
 
--- the two cases of an answer
-pub walked_cases : Cases Walked.Done Walked.Nothing
-walked_cases =
-    record {
-      apart = λ q a h. let z : ◌≡◌ {A = ℕ} 0 1 = cc in omega arith;
-      end = λ q p a b h. cc;
-      value = λ q p a b h. cc;
-    }
+-- an answer keeps where it ends, and what was gathered
+pub walked_cases : Cases walked
+walked_cases = record { end = λ q p a b h. ap (λ (w : Walked). w.end) h; value = λ q p a b h. ap (λ (w : Walked). w.summary) h }
 
 -- ---- the number of tests and the first refusal
 
@@ -85,21 +79,21 @@ summary_inside ps c b i p t o a s e h k f g =
 
 -- ---- there are no more tests than bytes, so that their sum fits
 
-pub tests_fit : (ps : List Parameter) (s : ℕ) (xs : List ℕ) (close d p m q n : ℕ) (a b : Summary) (c : FoundConnective) (o : Connective) (r : Walked)
-    → Chain Walked.Done Walked.Nothing walked_cases (reading ps s) xs close d p m a → c ≡ connective_at xs m → c ≡ FoundConnective.Next q o
-    → r ≡ answer_of Walked.Done Walked.Nothing (reading ps s) (item_at d xs close q) → r ≡ Walked.Done n b → length xs ≤ 1024 → a.tests + b.tests ≤ 1024
-tests_fit ps s xs close d p m q n a b c o r k e h f i short =
-    let w = was_item Walked.Done Walked.Nothing walked_cases (reading ps s) xs close d q r n b f i in
-    let u = connective_ahead xs m q o c e h in
+pub tests_fit : (ps : List Parameter) (s : ℕ) (xs : List ℕ) (close d p m n : ℕ) (a b : Summary) (c : Option Link) (l : Link) (r : Option Walked)
+    → Chain walked walked_cases (reading ps s) xs close d p m a → c ≡ connective_at xs m → c ≡ Some l
+    → r ≡ answer_of walked (reading ps s) (item_at d xs close l.next) → r ≡ Some (walked n b) → length xs ≤ 1024 → a.tests + b.tests ≤ 1024
+tests_fit ps s xs close d p m n a b c l r k e h f i short =
+    let w = was_item walked walked_cases (reading ps s) xs close d l.next r n b f i in
+    let u = connective_ahead xs m l c e h in
     let before : a.tests ≡ length (tests_of k.tree) = ap (λ (s : Summary). s.tests) (k.value ∙ reading_is ps s k.tree) in
     let after : b.tests ≡ length (tests_of w.tree) = ap (λ (s : Summary). s.tests) (w.value ∙ reading_is ps s w.tree) in
     omega (arith, filter_count k.derives, item_count w.derives, item_rise w.derives)
 
 -- a member's test and those in its bundle's brackets: behind the opening bracket at least
-pub member-fits : (ps : List Parameter) (i : ℕ) (xs : List ℕ) (close d u q n : ℕ) (o a : Summary) (t : Test) (r : Walked) → RunEnd is_space xs (u + 1) q → r ≡ answer_of Walked.Done Walked.Nothing (reading ps i) (filter_at d xs close q)
-    → r ≡ Walked.Done n a → o ≡ (reading ps i).one t → length xs ≤ 1024 → o.tests + a.tests ≤ 1024
+pub member-fits : (ps : List Parameter) (i : ℕ) (xs : List ℕ) (close d u q n : ℕ) (o a : Summary) (t : Test) (r : Option Walked) → RunEnd is_space xs (u + 1) q → r ≡ answer_of walked (reading ps i) (filter_at d xs close q)
+    → r ≡ Some (walked n a) → o ≡ (reading ps i).one t → length xs ≤ 1024 → o.tests + a.tests ≤ 1024
 member-fits ps i xs close d u q n o a t r s f e h short =
-    let w = was_filter Walked.Done Walked.Nothing walked_cases (reading ps i) xs close d q r n a f e in
+    let w = was_filter walked walked_cases (reading ps i) xs close d q r n a f e in
     let outer : o.tests ≡ 1 = ap (λ (s : Summary). s.tests) h in
     let inner : a.tests ≡ length (tests_of w.tree) = ap (λ (s : Summary). s.tests) (w.value ∙ reading_is ps i w.tree) in
     omega (arith, filter_count w.derives, filter_rise w.derives, s.from)

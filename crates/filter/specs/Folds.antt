@@ -7,6 +7,11 @@ use Rattle.syntax.specs.Fold.{Fold}
 use Rattle.refusal.specs.Decisions.{or_else}
 use Rattle.judge.specs.Faults.{first_fault}
 use Rattle.filter.specs.declared.Summary.{Summary}
+use Rattle.filter.specs.declared.Walked.{Walked}
+
+-- what was read up to q, with what was gathered
+abbrev pub walked : ℕ → Summary → Walked
+walked q a = record { end = q; summary = a }
 
 -- of two parts together
 abbrev pub join_summaries : Summary → Summary → Summary

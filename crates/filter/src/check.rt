@@ -6,17 +6,14 @@ ghost use Rattle.syntax.specs.Scan.{test_of};
 ghost use Rattle.syntax.specs.Tree.{moved};
 ghost use Rattle.syntax.specs.Grammar.{round};
 ghost use Rattle.syntax.specs.Reader.{item_at, filter_at, bracket_at, chosen_at};
-ghost use Rattle.filter.specs.Folds.{join_summaries, reading};
+ghost use Rattle.filter.specs.Folds.{walked, join_summaries, reading};
 ghost use Rattle.filter.specs.Walks.{answer_of};
 
 use crate::{Spot, Summary, Walked};
 use block::Validity;
 use judge::test_fault;
 use syntax::scan::skip;
-use syntax::{
-    FoundClose, FoundConnective, FoundTest, Head, RawTest, read_close, read_connective, read_head,
-    read_member,
-};
+use syntax::{Head, RawTest, read_close, read_connective, read_head, read_member};
 
 // One test, with its first byte at a position, where it may be refused.
 pub fn test_summary(
@@ -50,33 +47,29 @@ pub fn join_summaries(a: Summary, b: Summary) -> Summary
 
 // The filter in round brackets at a spot inside them, after not or without.
 #[cycle(checking)]
-fn check_round(sheet: &[u8], filter: &[u8], spot: Spot) -> Walked
+fn check_round(sheet: &[u8], filter: &[u8], spot: Spot) -> Option<Walked>
     requires sheet_value { read_sheet sheet.now ≡ Validity.WellFormed }
     requires filter_len_bound { length filter.now ≤ 1024 }
     requires at_in_bounds { spot.at ≤ length filter.now }
     requires close_value { spot.close ≡ round }
-    ensures { (negated : Bool) → result ≡ answer_of Walked.Done Walked.Nothing (reading (parameters_of sheet.now) spot.bundle) (bracket_at spot.levels filter.now negated spot.at) }
+    ensures { (negated : Bool) → result ≡ answer_of walked (reading (parameters_of sheet.now) spot.bundle) (bracket_at spot.levels filter.now negated spot.at) }
 {
-    let inner = check_filter(sheet, filter, spot);
-    let Walked::Done(end, summary) = inner else {
-        return Walked::Nothing;
-    };
-    let closed = read_close(filter, b')', end);
-    let FoundClose::At(after) = closed else {
-        return Walked::Nothing;
-    };
-    Walked::Done(after, summary)
+    let inner = check_filter(sheet, filter, spot)?;
+    Some(Walked {
+        end: read_close(filter, b')', inner.end)?,
+        summary: inner.summary,
+    })
 }
 
 // The test of a member at a spot, after the filter in square brackets of the bundle whose name ends at `until`; the levels are those in
 // the brackets.
 #[cycle(checking)]
-fn check_chosen(sheet: &[u8], filter: &[u8], spot: Spot, until: usize) -> Walked
+fn check_chosen(sheet: &[u8], filter: &[u8], spot: Spot, until: usize) -> Option<Walked>
     requires sheet_value { read_sheet sheet.now ≡ Validity.WellFormed }
     requires filter_len_bound { length filter.now ≤ 1024 }
     requires at_le_until { spot.at ≤ until }
     requires until_in_bounds { until < length filter.now }
-    ensures { result ≡ answer_of Walked.Done Walked.Nothing (reading (parameters_of sheet.now) spot.bundle) (chosen_at spot.levels filter.now spot.close spot.at until) }
+    ensures { result ≡ answer_of walked (reading (parameters_of sheet.now) spot.bundle) (chosen_at spot.levels filter.now spot.close spot.at until) }
 {
     let at = spot.at;
     let levels = spot.levels;
@@ -91,42 +84,37 @@ fn check_chosen(sheet: &[u8], filter: &[u8], spot: Spot, until: usize) -> Walked
             close: b']',
             bundle: inside,
         },
-    );
-    let Walked::Done(end, summary) = inner else {
-        return Walked::Nothing;
-    };
-    let member = read_member(filter, spot.close, end);
-    let FoundTest::Test(test) = member else {
-        return Walked::Nothing;
-    };
+    )?;
+    let test = read_member(filter, spot.close, inner.end)?;
     let outer = test_summary(sheet, inside, filter, at, test);
-    let value = test.value;
-    Walked::Done(value.next, join_summaries(outer, summary))
+    Some(Walked {
+        end: test.value.next,
+        summary: join_summaries(outer, inner.summary),
+    })
 }
 
 // The item at a spot: "a test, a filter in round brackets, or not followed by a filter in round brackets", or the test of a member
 // after its bundle's brackets.
 #[cycle(checking)]
-fn check_item(sheet: &[u8], filter: &[u8], spot: Spot) -> Walked
+fn check_item(sheet: &[u8], filter: &[u8], spot: Spot) -> Option<Walked>
     requires sheet_value { read_sheet sheet.now ≡ Validity.WellFormed }
     requires filter_len_bound { length filter.now ≤ 1024 }
     requires at_in_bounds { spot.at ≤ length filter.now }
-    ensures { result ≡ answer_of Walked.Done Walked.Nothing (reading (parameters_of sheet.now) spot.bundle) (item_at spot.levels filter.now spot.close spot.at) }
+    ensures { result ≡ answer_of walked (reading (parameters_of sheet.now) spot.bundle) (item_at spot.levels filter.now spot.close spot.at) }
 {
     let at = spot.at;
     let levels = spot.levels;
     let close = spot.close;
     let bundle = spot.bundle;
-    let head = read_head(filter, close, at);
+    let head = read_head(filter, close, at)?;
     match head {
-        Head::Test(test) => {
-            let summary = test_summary(sheet, bundle, filter, test.at, test);
-            let value = test.value;
-            Walked::Done(value.next, summary)
-        }
+        Head::Test(test) => Some(Walked {
+            end: test.value.next,
+            summary: test_summary(sheet, bundle, filter, test.at, test),
+        }),
         Head::Open(next, _) => {
             if levels == 0 {
-                return Walked::Nothing;
+                return None;
             }
             let inside = Spot {
                 at: next,
@@ -138,7 +126,7 @@ fn check_item(sheet: &[u8], filter: &[u8], spot: Spot) -> Walked
         }
         Head::Choice(until) => {
             if levels == 0 {
-                return Walked::Nothing;
+                return None;
             }
             let member = Spot {
                 at,
@@ -148,48 +136,28 @@ fn check_item(sheet: &[u8], filter: &[u8], spot: Spot) -> Walked
             };
             check_chosen(sheet, filter, member, until)
         }
-        Head::Nothing => Walked::Nothing,
     }
 }
 
 // The filter at a spot: "one or more items joined by and or or", from left to right.
 #[cycle(checking)]
-pub fn check_filter(sheet: &[u8], filter: &[u8], spot: Spot) -> Walked
+pub fn check_filter(sheet: &[u8], filter: &[u8], spot: Spot) -> Option<Walked>
     requires sheet_value { read_sheet sheet.now ≡ Validity.WellFormed }
     requires filter_len_bound { length filter.now ≤ 1024 }
     requires at_in_bounds { spot.at ≤ length filter.now }
-    ensures { result ≡ answer_of Walked.Done Walked.Nothing (reading (parameters_of sheet.now) spot.bundle) (filter_at spot.levels filter.now spot.close spot.at) }
+    ensures { result ≡ answer_of walked (reading (parameters_of sheet.now) spot.bundle) (filter_at spot.levels filter.now spot.close spot.at) }
 {
-    let first = check_item(sheet, filter, spot);
-    let Walked::Done(first_end, first_summary) = first else {
-        return Walked::Nothing;
-    };
-    let mut end = first_end;
-    let mut summary = first_summary;
-    loop {
-        let connective = read_connective(filter, end);
-        match connective {
-            FoundConnective::Next(next, _) => {
-                let next_spot = Spot {
-                    at: next,
-                    levels: spot.levels,
-                    close: spot.close,
-                    bundle: spot.bundle,
-                };
-                let item = check_item(sheet, filter, next_spot);
-                match item {
-                    Walked::Done(item_end, item_summary) => {
-                        end = item_end;
-                        summary = join_summaries(summary, item_summary);
-                    }
-                    Walked::Nothing => {
-                        return Walked::Nothing;
-                    }
-                }
-            }
-            FoundConnective::Nothing => {
-                return Walked::Done(end, summary);
-            }
-        }
+    let mut read = check_item(sheet, filter, spot)?;
+    while let Some(link) = read_connective(filter, read.end) {
+        let next = Spot {
+            at: link.next,
+            ..spot
+        };
+        let item = check_item(sheet, filter, next)?;
+        read = Walked {
+            end: item.end,
+            summary: join_summaries(read.summary, item.summary),
+        };
     }
+    Some(read)
 }

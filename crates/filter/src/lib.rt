@@ -27,11 +27,11 @@ pub struct Summary {
     pub first: Result<(), Refusal>,
 }
 
-// Where a filter or an item that was read ends, and what was gathered; or that there is none.
+// Where a filter or an item that was read ends, and what was gathered.
 #[derive(Clone, Copy)]
-pub enum Walked {
-    Done(usize, Summary),
-    Nothing,
+pub struct Walked {
+    pub end: usize,
+    pub summary: Summary,
 }
 
 // Where the whole filter begins: behind leading spaces, with 8 levels of brackets below it, at the top of the sheet.

@@ -5,7 +5,7 @@
 -- (`rows_says`). By the text, the tree that the walk reads is the one that check has read (`read-from`), so that the walk's answer is what
 -- the text says (`says_done`). The verdict gives match's answer (`match_answered`).
 -- Assumes nothing.
-use Rattle.std.specs.Prelude.{Err, Ok, Result, ⊤}
+use Rattle.std.specs.Prelude.{Err, Ok, Result, ⊤, Option, Some, None}
 use Prim.Native.Nat.{ℕ, ◌≤◌}
 use native.Mathlib.Omega.{arith}
 use mathlib.Core.Path.{◌≡◌, refl, sym, ap, ap₂, ◌∙◌}
@@ -24,7 +24,7 @@ use Rattle.judge.specs.Sets.{chosen_of, conforms, conforms_to}
 use Rattle.judge.specs.Verdicts.{filter_says}
 use Rattle.judge.proofs.Entries.{every, chosen-every}
 use Rattle.judge.proofs.Table.{table_conforms}
-use Rattle.text_judge.specs.Folds.{judging}
+use Rattle.text_judge.specs.Folds.{judged, judging}
 use Rattle.filter.specs.Walks.{top_spot, answer_of}
 use Rattle.filter.specs.declared.Spot.{Spot}
 use Rattle.text_judge.specs.declared.Judged.{Judged}
@@ -46,21 +46,21 @@ use Rattle.answer.proofs.Passing.{passing_asks, yes_or_no_after}
 
 -- ---- what the filter says
 
-module _ (ps : List Parameter) (es : List Entry) (b xs : List ℕ) (p : Passing b xs) (spot : Spot) (s : spot ≡ top_spot xs) (w : Judged)
-    (e : w ≡ answer_of Judged.Done Judged.Nothing (judging true ps spot.bundle (chosen_of every es)) (filter_at spot.levels xs spot.close spot.at)) where
+module _ (ps : List Parameter) (es : List Entry) (b xs : List ℕ) (p : Passing b xs) (spot : Spot) (s : spot ≡ top_spot xs) (w : Option Judged)
+    (e : w ≡ answer_of judged (judging true ps spot.bundle (chosen_of every es)) (filter_at spot.levels xs spot.close spot.at)) where
   read-from : (g : Parsed) → filter_at spot.levels xs spot.close spot.at ≡ g → whole xs g ≡ some p.tree
   read-from g h = sym (top_read xs spot s ∙ ap (whole xs) h) ∙ p.reads
 
-  pub says_done : (q : ℕ) (a : Bool) → w ≡ Judged.Done q a → a ≡ text_says ps es (read xs)
-  says_done q a h =
-      let was = was_filter Judged.Done Judged.Nothing judged_cases (judging true ps spot.bundle (chosen_of every es)) xs spot.close spot.levels spot.at w q a e h in
+  pub says_done : (j : Judged) → w ≡ Some j → j.says ≡ text_says ps es (read xs)
+  says_done j h =
+      let was = was_filter judged judged_cases (judging true ps spot.bundle (chosen_of every es)) xs spot.close spot.levels spot.at w j.end j.says e h in
       let f = was.tree in
-      let same : f ≡ p.tree = (whole_kept xs q f p.tree (read-from (parsed q f) was.read)).same in
+      let same : f ≡ p.tree = (whole_kept xs j.end f p.tree (read-from (parsed j.end f) was.read)).same in
       was.value ∙ judging_is ps spot.bundle (chosen_of every es) f ∙ ap₂ (λ (c : ℕ) (l : List Entry). filter_says ps c l f) (top-bundle xs spot s) (chosen-every es) ∙ rw p.reads (ap (filter_says ps 0 es) same)
 
-  pub says_nothing : (r : Bool) → w ≡ Judged.Nothing → r ≡ text_says ps es (read xs)
+  pub says_nothing : (r : Bool) → w ≡ None → r ≡ text_says ps es (read xs)
   says_nothing r h =
-      let z : none ≡ some p.tree = read-from unparsed (was_none Judged.Done Judged.Nothing judged_cases (judging true ps spot.bundle (chosen_of every es)) xs spot.close spot.levels spot.at w e h) in
+      let z : none ≡ some p.tree = read-from unparsed (was_none judged judged_cases (judging true ps spot.bundle (chosen_of every es)) xs spot.close spot.levels spot.at w e h) in
       cc
 
 -- ---- one card is accepted

@@ -22,10 +22,9 @@ fn text_says(sheet: &[u8], filter: &[u8], card: &[u8]) -> bool
 {
     let spot = top(filter);
     let every: Chosen = None;
-    let judged = judge_filter(true, sheet, card, every, filter, spot);
-    match judged {
-        Judged::Done(_, says) => says,
-        Judged::Nothing => false,
+    match judge_filter(true, sheet, card, every, filter, spot) {
+        Some(judged) => judged.says,
+        None => false,
     }
 }
 

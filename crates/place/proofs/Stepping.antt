@@ -4,7 +4,7 @@
 -- (`advances`). That fewer than j brackets are open is that the number is below 2 to the j (`fewer`, by induction on j). The loop keeps
 -- `Reaching`: what the machine answers from the state reached over the bytes that are left is its answer to the whole text.
 -- Assumes nothing.
-use Rattle.std.specs.Prelude.{Err, Ok, Result, ⊤}
+use Rattle.std.specs.Prelude.{Err, Ok, Result, ⊤, Option, Some, is_some}
 use Prim.Native.Nat.{ℕ, zero, suc, ◌+◌, ◌-◌, ◌*◌, ◌/◌, ◌%◌, ◌≤◌, ◌<◌}
 use Prim.Native.Char.{code}
 use native.Mathlib.Omega.{arith}
@@ -27,7 +27,6 @@ use Rattle.syntax.specs.Strings.{quote, is_bare}
 use Rattle.syntax.specs.Grammar.{round, square, deepest, most_tests}
 use Rattle.syntax.specs.Scan.{is_space, step_of, find_operator, operator_at}
 use Rattle.syntax.specs.declared.StringStep.{StringStep}
-use Rattle.syntax.specs.declared.FoundOperator.{FoundOperator}
 use Rattle.place.specs.declared.Mode.{Mode}
 use Rattle.place.specs.declared.Reached.{Reached}
 use Rattle.refusal.specs.declared.Reason.{Reason}
@@ -47,32 +46,20 @@ pub begins_other : (b : ℕ) (r t : Bool) → r ≡ member b (ascii "cegns") →
 unfolding begins_operator
 begins_other b r t e h f = rw (sym e ∙ h) f
 
-is_found : FoundOperator → Bool
-is_found (FoundOperator.Is k) = true
-is_found FoundOperator.Nothing = false
-
-found_some : (j : ℕ) (us : List (List ℕ)) (w : List ℕ) → is_found (find_operator j us w) ≡ some_word (λ u. equal w u) us
-unfolding find_operator some_word is_found
+found_some : (j : ℕ) (us : List (List ℕ)) (w : List ℕ) → is_some (find_operator j us w) ≡ some_word (λ u. equal w u) us
+unfolding find_operator some_word
 found_some j [] w = refl
 found_some j (u ∷ us) w = go (equal w u) (found_some (suc j) us w)
   where
-    go : (b : Bool) → is_found (find_operator (suc j) us w) ≡ some_word (λ v. equal w v) us
-        → is_found (cond b (FoundOperator.Is j) (find_operator (suc j) us w)) ≡ (b || some_word (λ v. equal w v) us)
+    go : (b : Bool) → is_some (find_operator (suc j) us w) ≡ some_word (λ v. equal w v) us
+        → is_some (cond b (Some j) (find_operator (suc j) us w)) ≡ (b || some_word (λ v. equal w v) us)
     go true e = refl
     go false e = e
 
-module _ (x y : ℕ) (f : FoundOperator) (e : f ≡ operator_at (x ∷ y ∷ []) 0) where
-  found_is : is_found f ≡ is_operator (x ∷ y ∷ [])
+module _ (x y : ℕ) (f : Option ℕ) (e : f ≡ operator_at (x ∷ y ∷ []) 0) where
+  pub operator_is : is_some f ≡ is_operator (x ∷ y ∷ [])
   unfolding operator_at is_operator
-  found_is = ap is_found e ∙ found_some 0 operator_words (x ∷ y ∷ [])
-
-  pub operator_is : (k : ℕ) → f ≡ FoundOperator.Is k → true ≡ is_operator (x ∷ y ∷ [])
-  unfolding is_found
-  operator_is k h = sym (ap is_found h) ∙ found_is
-
-  pub operator_none : f ≡ FoundOperator.Nothing → false ≡ is_operator (x ∷ y ∷ [])
-  unfolding is_found
-  operator_none h = sym (ap is_found h) ∙ found_is
+  operator_is = ap is_some e ∙ found_some 0 operator_words (x ∷ y ∷ [])
 
 module _ (pending : Bool) (b k n : ℕ) (f : StringStep) (e : f ≡ step_of pending b) (z : Outcome) where
   pub quoted_more : (q : Bool) → f ≡ StringStep.More q → z ≡ on (Mode.Quoted q) k n → z ≡ quoted pending b k n

@@ -8,10 +8,10 @@ ghost use Rattle.place.specs.Code.{on, opened, chosen, closed_round, closed_squa
 use crate::{Mode, Reached};
 use base::name::{is_name, is_name_part, is_name_start};
 use refusal::Reason;
+use syntax::StringStep;
 use syntax::scan::is_space;
 use syntax::test::read_operator;
 use syntax::value::{is_bare, string_step};
-use syntax::{FoundOperator, StringStep};
 
 // Whether a byte is another.
 fn is(b: u8, x: u8) -> bool
@@ -241,10 +241,7 @@ fn begins_operator(b: u8) -> bool
 fn is_operator(first: u8, second: u8) -> bool
     ensures { result ≡ is_operator (first ∷ second ∷ []) }
 {
-    match read_operator(&[first, second], 0) {
-        FoundOperator::Is(_) => true,
-        FoundOperator::Nothing => false,
-    }
+    read_operator(&[first, second], 0).is_some()
 }
 
 // The byte after a test's name and a space.

@@ -5,7 +5,7 @@
 -- refusal (`text_refused`, `fill_sheet`). The room is tested last of all (`preparation_is`), which leaves the laws of the list: refused
 -- before, too short, or filled (`prepare_refused`, `prepare_short`, `prepare_done`).
 -- Assumes nothing.
-use Rattle.std.specs.Prelude.{Err, Ok, Result, ⊤}
+use Rattle.std.specs.Prelude.{Err, Ok, Result, ⊤, Option, Some, None}
 use Prim.Native.Nat.{ℕ, ◌+◌, ◌-◌, ◌≤◌, ◌<◌}
 use native.Mathlib.Omega.{arith}
 use mathlib.Core.Path.{◌≡◌, refl, sym, ap, subst, ◌∙◌}
@@ -110,59 +110,59 @@ module _ (ps : List Parameter) (xs : List ℕ) (n : length xs ≡ 0 → ⊥) (l 
   no_tree r buffer e h =
       text_refused ps xs r buffer (number_of (failure deepest most_tests xs).reason) (failure deepest most_tests xs).place h (rw (text_read xs n l none e))
 
-  module _ (spot : Spot) (s : spot ≡ top_spot xs) (v : Written) (before after : List ℕ) (w : Wrote ps spot.bundle xs 0 (filter_at spot.levels xs spot.close spot.at) v before after) where
+  module _ (spot : Spot) (s : spot ≡ top_spot xs) (v : Option Written) (before after : List ℕ) (w : Wrote ps spot.bundle xs 0 (filter_at spot.levels xs spot.close spot.at) v before after) where
     at_top : Wrote ps 0 xs 0 (filter_at spot.levels xs spot.close spot.at) v before after
     at_top = subst (λ (c : ℕ). Wrote ps c xs 0 (filter_at spot.levels xs spot.close spot.at) v before after) (top-bundle xs spot s) w
 
-    pub fill_nothing : (r : Result ℕ Refusal) → v ≡ Written.Nothing → counted_answer r ≡ refusal_answer (failure deepest most_tests xs) → FillsText ps xs r after
+    pub fill_nothing : (r : Result ℕ Refusal) → v ≡ None → counted_answer r ≡ refusal_answer (failure deepest most_tests xs) → FillsText ps xs r after
     fill_nothing r h = no_tree r after (top_read xs spot s ∙ ap (whole xs) (writing.was_none ps 0 xs 0 at_top h))
 
-    module _ (end : ℕ) (a : Outcome) (h : v ≡ Written.Done end a) where
-      takes : writing.Takes ps 0 xs 0 spot.close spot.levels spot.at v before after end a
-      takes = writing.filter_takes ps 0 xs 0 spot.close spot.levels spot.at v before after end a at_top h
+    module _ (got : Written) (h : v ≡ Some got) where
+      takes : writing.Takes ps 0 xs 0 spot.close spot.levels spot.at v before after got
+      takes = writing.filter_takes ps 0 xs 0 spot.close spot.levels spot.at v before after got at_top h
 
-      pub fill_within : end ≤ length xs
+      pub fill_within : got.end ≤ length xs
       fill_within = takes.within
 
-      module _ (behind : ℕ) (t : RunEnd is_space xs end behind) where
-        was : writing.Was ps 0 xs 0 (filter_at spot.levels xs spot.close spot.at) end a before after
-        was = writing.was ps 0 xs 0 end a at_top h
+      module _ (behind : ℕ) (t : RunEnd is_space xs got.end behind) where
+        was : writing.Was ps 0 xs 0 (filter_at spot.levels xs spot.close spot.at) got.end got.outcome before after
+        was = writing.was ps 0 xs 0 got.end got.outcome at_top h
 
-        read_whole : read xs ≡ whole xs (parsed end was.tree)
+        read_whole : read xs ≡ whole xs (parsed got.end was.tree)
         read_whole = top_read xs spot s ∙ ap (whole xs) was.read
 
         pub fill_trails : (r : Result ℕ Refusal) → (behind ≡ length xs → ⊥) → counted_answer r ≡ refusal_answer (failure deepest most_tests xs) → FillsText ps xs r after
-        fill_trails r k = no_tree r after (read_whole ∙ whole_trails xs end behind t was.tree k)
+        fill_trails r k = no_tree r after (read_whole ∙ whole_trails xs got.end behind t was.tree k)
 
-        tests_are : a.summary.tests ≡ length (tests_of was.tree)
+        tests_are : got.outcome.summary.tests ≡ length (tests_of was.tree)
         tests_are = ap (λ (o : Outcome). o.summary.tests) was.value
 
-        pub fill_many : (r : Result ℕ Refusal) → behind ≡ length xs → 32 < a.summary.tests → counted_answer r ≡ refusal_answer (failure deepest most_tests xs) → FillsText ps xs r after
-        fill_many r k m = no_tree r after (read_whole ∙ whole_many xs end behind t was.tree k (omega (arith, tests_are)))
+        pub fill_many : (r : Result ℕ Refusal) → behind ≡ length xs → 32 < got.outcome.summary.tests → counted_answer r ≡ refusal_answer (failure deepest most_tests xs) → FillsText ps xs r after
+        fill_many r k m = no_tree r after (read_whole ∙ whole_many xs got.end behind t was.tree k (omega (arith, tests_are)))
 
         -- the text is a filter: its tests decide
-        module _ (k : behind ≡ length xs) (m : a.summary.tests ≤ 32) where
-          rows_by : text_rows ps xs ≡ (decision_step a.summary.first >>= λ u. found (row_cells ps xs was.tree))
+        module _ (k : behind ≡ length xs) (m : got.outcome.summary.tests ≤ 32) where
+          rows_by : text_rows ps xs ≡ (decision_step got.outcome.summary.first >>= λ u. found (row_cells ps xs was.tree))
           unfolding text_rows tests_step
           rows_by =
-              let r : accept_filter xs ≡ found was.tree = text_read xs n l (some was.tree) (read_whole ∙ whole_few xs end behind t was.tree k (omega (arith, tests_are))) in
+              let r : accept_filter xs ≡ found was.tree = text_read xs n l (some was.tree) (read_whole ∙ whole_few xs got.end behind t was.tree k (omega (arith, tests_are))) in
               ap (λ (q : Step Tree). q >>= λ f. decision_step (first_fault ps 0 (tests_of f)) >>= λ u. found (row_cells ps xs f)) r
               ∙ ap (λ (o : Outcome). decision_step o.summary.first >>= λ u. found (row_cells ps xs was.tree)) (sym was.value)
 
-          pub fill_done : (c : Result ℕ Refusal) (n : ℕ) → counted_answer c ≡ summary_answer a.summary → c ≡ Ok n → length before ≡ 1024 → FillsText ps xs (Ok a.cells) after
+          pub fill_done : (c : Result ℕ Refusal) (n : ℕ) → counted_answer c ≡ summary_answer got.outcome.summary → c ≡ Ok n → length before ≡ 1024 → FillsText ps xs (Ok got.outcome.cells) after
           fill_done c n e i size =
-              let clean : decision_step a.summary.first ≡ found tt = none_refused a.summary c n e i in
-              let same : a.cells ≡ cell_count was.tree = ap (λ (o : Outcome). o.cells) was.value in
-              let at_first : a.cells ≡ 0 + cell_count was.tree = omega (arith, same) in
-              let cells : take a.cells after ≡ row_cells ps xs was.tree = ap (λ (x : ℕ). take x after) at_first ∙ was.cells in
+              let clean : decision_step got.outcome.summary.first ≡ found tt = none_refused got.outcome.summary c n e i in
+              let same : got.outcome.cells ≡ cell_count was.tree = ap (λ (o : Outcome). o.cells) was.value in
+              let at_first : got.outcome.cells ≡ 0 + cell_count was.tree = omega (arith, same) in
+              let cells : take got.outcome.cells after ≡ row_cells ps xs was.tree = ap (λ (x : ℕ). take x after) at_first ∙ was.cells in
               record {
                 rows = ap found cells ∙ sym (rows_by ∙ ap (λ (q : Step (Unit {0})). q >>= λ u. found (row_cells ps xs was.tree)) clean);
-                room = λ j g. let x : a.cells ≡ j = cc in omega (arith, takes.cells_fit, takes.within, w.size, size);
+                room = λ j g. let x : got.outcome.cells ≡ j = cc in omega (arith, takes.cells_fit, takes.within, w.size, size);
               }
 
-          pub fill_fault : (c : Result ℕ Refusal) (r : Refusal) → counted_answer c ≡ summary_answer a.summary → c ≡ Err r → FillsText ps xs (Err r) after
+          pub fill_fault : (c : Result ℕ Refusal) (r : Refusal) → counted_answer c ≡ summary_answer got.outcome.summary → c ≡ Err r → FillsText ps xs (Err r) after
           fill_fault c r e i =
-              let fault : decision_step a.summary.first ≡ refusal_step r = one_refused a.summary c r e i in
+              let fault : decision_step got.outcome.summary.first ≡ refusal_step r = one_refused got.outcome.summary c r e i in
               record {
                 rows = sym (rows_by ∙ ap (λ (q : Step (Unit {0})). q >>= λ u. found (row_cells ps xs was.tree)) fault);
                 room = λ j g. let z : ◌≡◌ {A = ℕ} 0 1 = cc in absurd (omega arith);

@@ -14,7 +14,7 @@ use checking::outcome;
 use filter::top;
 use place::find_failure;
 use refusal::{Reason, Refusal};
-use row_writer::{Outcome, Written, write_filter};
+use row_writer::write_filter;
 use syntax::scan::skip;
 
 // A refusal as prepare's answer.
@@ -44,24 +44,22 @@ fn fill_text(sheet: &[u8], filter: &[u8], buffer: &mut [u32]) -> Result<usize, R
         return refuse(Reason::FilterSize, 0);
     }
     let spot = top(filter);
-    let written = write_filter(sheet, filter, spot, buffer, 0);
-    match written {
-        Written::Done(end, gathered) => {
-            let after = skip(filter, end);
-            if after != filter.len() {
-                return no_filter(filter);
-            }
-            let summary = gathered.summary;
-            if summary.tests > 32 {
-                return no_filter(filter);
-            }
-            let checked = outcome(summary);
-            match checked {
-                Ok(_) => Ok(gathered.cells),
-                Err(refusal) => Err(refusal),
-            }
-        }
-        Written::Nothing => no_filter(filter),
+    let Some(written) = write_filter(sheet, filter, spot, buffer, 0) else {
+        return no_filter(filter);
+    };
+    let after = skip(filter, written.end);
+    if after != filter.len() {
+        return no_filter(filter);
+    }
+    let gathered = written.outcome;
+    let summary = gathered.summary;
+    if summary.tests > 32 {
+        return no_filter(filter);
+    }
+    let checked = outcome(summary);
+    match checked {
+        Ok(_) => Ok(gathered.cells),
+        Err(refusal) => Err(refusal),
     }
 }
 

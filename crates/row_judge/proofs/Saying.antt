@@ -26,7 +26,6 @@ use Rattle.syntax.specs.Placed.{PlacedValue}
 use Rattle.syntax.specs.declared.Connective.{Connective}
 use Rattle.syntax.specs.Scan.{value_at, contents, decode, Decoded}
 use Rattle.syntax.specs.declared.RawValue.{RawValue}
-use Rattle.syntax.specs.declared.FoundValue.{FoundValue}
 use Rattle.syntax.proofs.Places.{value-at-placed}
 use Rattle.kind.specs.Table.{meaning_of}
 use Rattle.kind.specs.Readable.{is_true}
@@ -95,9 +94,9 @@ module _ (kinds xs : List ℕ) (k : Chosen) (all : List Entry) (p : Probe) where
       same : (o : ℕ) → counts k o ≡ true → occurrence_says kinds xs all cs o ≡ kept o
       same o c = rows_are kinds xs e cs (of_occurrence o all) h ∙ ap (λ (l : List Entry). expression_says kinds xs l e) (sym (occurrence_whole k o all c))
 
-      by_value : (f : FoundValue) → probe_says_each_by f (get_or kinds p.index 0) kinds xs cs p k all ≡ probe_says_by f (get_or kinds p.index 0) xs p (keep (λ n. kept n.occurrence) (chosen_of k all))
-      by_value (FoundValue.Value v) = each_is (occurrence_says kinds xs all cs) kept same (get_or kinds p.index 0) v
-      by_value FoundValue.Nothing = refl
+      by_value : (f : Option RawValue) → probe_says_each_by f (get_or kinds p.index 0) kinds xs cs p k all ≡ probe_says_by f (get_or kinds p.index 0) xs p (keep (λ n. kept n.occurrence) (chosen_of k all))
+      by_value (Some v) = each_is (occurrence_says kinds xs all cs) kept same (get_or kinds p.index 0) v
+      by_value None = refl
 
 -- ---- entry by entry from the last to the first
 
@@ -197,14 +196,14 @@ occurrence_says_lem kinds xs rows all o r e = e ∙ ap (λ (l : List Entry). row
 
 module _ (kinds xs : List ℕ) (p : Probe) (c : Option Opened) (e : c ≡ opened_for kinds xs p) where
   -- where none is opened there is none
-  none_told : c ≡ None → value_at xs p.position ≡ FoundValue.Nothing
+  none_told : c ≡ None → value_at xs p.position ≡ None
   unfolding opened_for
   none_told h = by_value (value_at xs p.position) refl
     where
-      by_value : (f : FoundValue) → value_at xs p.position ≡ f → f ≡ FoundValue.Nothing
-      by_value (FoundValue.Value v) i =
+      by_value : (f : Option RawValue) → value_at xs p.position ≡ f → f ≡ None
+      by_value (Some v) i =
           absurd (none-some _ (sym h ∙ e ∙ ap (opened_by xs (meaning_of p.operator (get_or kinds p.index 0))) i))
-      by_value FoundValue.Nothing i = refl
+      by_value None i = refl
 
   pub plain_closed : (es : List Entry) → c ≡ None → false ≡ probe_says kinds xs p es
   unfolding probe_says
@@ -219,7 +218,7 @@ module _ (kinds xs : List ℕ) (p : Probe) (c : Option Opened) (e : c ≡ opened
     record Told (m : Meaning) : Type 0 where
       known : Known xs m o
       value : RawValue
-      found : value_at xs p.position ≡ FoundValue.Value value
+      found : value_at xs p.position ≡ Some value
       same : value_of xs o ≡ value_in xs value
       truth : o.truth ≡ is_true (value_in xs value)
 
@@ -227,8 +226,8 @@ module _ (kinds xs : List ℕ) (p : Probe) (c : Option Opened) (e : c ≡ opened
     unfolding opened_for opened_value value_of
     told = by_value (value_at xs p.position) refl
       where
-        by_value : (f : FoundValue) → value_at xs p.position ≡ f → Told (meaning_of p.operator (get_or kinds p.index 0))
-        by_value (FoundValue.Value v) i =
+        by_value : (f : Option RawValue) → value_at xs p.position ≡ f → Told (meaning_of p.operator (get_or kinds p.index 0))
+        by_value (Some v) i =
             let is : o ≡ opened_value (meaning_of p.operator (get_or kinds p.index 0)) v (value_in xs v) =
             same_Some _ _ (sym h ∙ e ∙ ap (opened_by xs (meaning_of p.operator (get_or kinds p.index 0))) i) in
             let q : PlacedValue xs v = value-at-placed xs p.position (value_at xs p.position) v refl i in
@@ -239,7 +238,7 @@ module _ (kinds xs : List ℕ) (p : Probe) (c : Option Opened) (e : c ≡ opened
               same = rw is;
               truth = rw is;
             }
-        by_value FoundValue.Nothing i =
+        by_value None i =
             absurd (none-some o (sym (ap (opened_by xs (meaning_of p.operator (get_or kinds p.index 0))) i) ∙ sym e ∙ h))
 
     pub probe_known : (m : Meaning) (kind : ℕ) → kind ≡ get_or kinds p.index 0 → m ≡ meaning_of p.operator kind → Known xs m o

@@ -1,12 +1,13 @@
 -- What an expression says of a card's entries, as the code goes: by index, and entry by entry. Kinds are a table by index.
 -- Assumes nothing.
-use Rattle.std.specs.Prelude.{ℕ, ◌+◌, ◌-◌, ◌/◌, ◌≤◌, ◌<◌, ◌≡◌, Bool, false, cond, not, ◌&&◌, ◌||◌, List, [], ◌∷◌, eqb, length, get_or, take, drop, ℤ}
-use Rattle.std.proofs.Math.Option.{Option, none, some}
+use Rattle.std.specs.Prelude.{ℕ, ◌+◌, ◌-◌, ◌/◌, ◌≤◌, ◌<◌, ◌≡◌, Bool, false, cond, not, ◌&&◌, ◌||◌, List, [], ◌∷◌, eqb, length, get_or, take, drop, ℤ, Option, Some, None}
+use Rattle.std.proofs.Math.Option as maybe
+use Rattle.std.proofs.Math.Option.{none, some}
 use Rattle.block.specs.declared.Validity.{Validity}
 use Rattle.card.specs.Card.{Entry, read_card}
 use Rattle.syntax.specs.Scan.{value_at}
 use Rattle.syntax.specs.declared.Connective.{Connective}
-use Rattle.syntax.specs.declared.FoundValue.{FoundValue}
+use Rattle.syntax.specs.declared.RawValue.{RawValue}
 use Rattle.kind.specs.Table.{meaning_of}
 use Rattle.kind.specs.Readable.{is_true}
 use Rattle.kind.specs.declared.Meaning.{Meaning}
@@ -22,9 +23,9 @@ use Rattle.row_opener.specs.Opening.{Opens}
 
 -- ---- an expression
 
-abbrev pub probe_says_by : FoundValue → ℕ → List ℕ → Probe → List Entry → Bool
-probe_says_by (FoundValue.Value v) kind xs p es = says_of (meaning_of p.operator kind) (value_in xs v) (values_at p.index es)
-probe_says_by FoundValue.Nothing kind xs p es = false
+abbrev pub probe_says_by : Option RawValue → ℕ → List ℕ → Probe → List Entry → Bool
+probe_says_by (Some v) kind xs p es = says_of (meaning_of p.operator kind) (value_in xs v) (values_at p.index es)
+probe_says_by None kind xs p es = false
 
 unfoldable pub probe_says : List ℕ → List ℕ → Probe → List Entry → Bool
 probe_says kinds xs p es = probe_says_by (value_at xs p.position) (get_or kinds p.index 0) xs p es
@@ -37,7 +38,7 @@ expression_says kinds xs es (negating e) = not (expression_says kinds xs es e)
 
 -- ---- rows
 
-abbrev pub stated_says : List ℕ → List ℕ → List Entry → Option Expression → Bool
+abbrev pub stated_says : List ℕ → List ℕ → List Entry → maybe.Option Expression → Bool
 stated_says kinds xs es none = false
 stated_says kinds xs es (some e) = expression_says kinds xs es e
 
@@ -95,10 +96,10 @@ some_entry says k i m v (e ∷ es) = (((counts k e.occurrence && eqb e.index i) 
 abbrev pub occurrence_says : List ℕ → List ℕ → List Entry → List ℕ → ℕ → Bool
 occurrence_says kinds xs all inner o = rows_say kinds xs (of_occurrence o all) inner
 
-abbrev pub probe_says_each_by : FoundValue → ℕ → List ℕ → List ℕ → List ℕ → Probe → Chosen → List Entry → Bool
-probe_says_each_by (FoundValue.Value v) kind kinds xs inner p k all =
+abbrev pub probe_says_each_by : Option RawValue → ℕ → List ℕ → List ℕ → List ℕ → Probe → Chosen → List Entry → Bool
+probe_says_each_by (Some v) kind kinds xs inner p k all =
     some_says (meaning_of p.operator kind) (is_true (value_in xs v)) (some_entry (occurrence_says kinds xs all inner) k p.index (meaning_of p.operator kind) (value_in xs v) all)
-probe_says_each_by FoundValue.Nothing kind kinds xs inner p k all = false
+probe_says_each_by None kind kinds xs inner p k all = false
 
 unfoldable pub probe_says_each : List ℕ → List ℕ → List ℕ → Probe → Chosen → List Entry → Bool
 probe_says_each kinds xs inner p k all = probe_says_each_by (value_at xs p.position) (get_or kinds p.index 0) kinds xs inner p k all

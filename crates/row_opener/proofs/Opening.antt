@@ -26,7 +26,6 @@ use Rattle.syntax.specs.Placed.{PlacedValue}
 use Rattle.syntax.specs.Scan.{value_at}
 use Rattle.syntax.specs.declared.Connective.{Connective}
 use Rattle.syntax.specs.declared.RawValue.{RawValue}
-use Rattle.syntax.specs.declared.FoundValue.{FoundValue}
 use Rattle.syntax.proofs.Places.{value-at-placed}
 use Rattle.kind.specs.Table.{meaning_of}
 use Rattle.kind.specs.Readable.{is_true}
@@ -67,12 +66,12 @@ for_small : (kinds xs : List ℕ) (p : Probe) (o : Opened) → opened_for kinds 
 unfolding opened_for opened_value
 for_small kinds xs p o h l = by_value (value_at xs p.position) refl h
   where
-    by_value : (f : FoundValue) → f ≡ value_at xs p.position → opened_by xs (meaning_of p.operator (get_or kinds p.index 0)) f ≡ Some o → Small o
-    by_value (FoundValue.Value v) e i =
-        let q : PlacedValue xs v = value-at-placed xs p.position (FoundValue.Value v) v e refl in
+    by_value : (f : Option RawValue) → f ≡ value_at xs p.position → opened_by xs (meaning_of p.operator (get_or kinds p.index 0)) f ≡ Some o → Small o
+    by_value (Some v) e i =
+        let q : PlacedValue xs v = value-at-placed xs p.position (Some v) v e refl in
         subst Small (same_Some _ o i)
         (record { sane = sane_for (meaning_of p.operator (get_or kinds p.index 0)) (value_in xs v); start_most = omega (arith, q.order, q.within, l); end_most = omega (arith, q.within, l) })
-    by_value FoundValue.Nothing e i = absurd (none-some o i)
+    by_value None e i = absurd (none-some o i)
 
 row_small : (kinds xs : List ℕ) (c : ℕ) (o : Opened) → opened_row kinds xs c ≡ Some o → length xs ≤ 1024 → Small o
 unfolding opened_row
@@ -258,12 +257,12 @@ module _ (kinds xs : List ℕ) (p : Probe) where
   unfolding opened_for value_at
   for_outside h = rw (le-ltb p.position (length xs) (omega arith))
 
-  module _ (f : FoundValue) (e : f ≡ value_at xs p.position) where
-    pub for_nothing : f ≡ FoundValue.Nothing → None ≡ opened_for kinds xs p
+  module _ (f : Option RawValue) (e : f ≡ value_at xs p.position) where
+    pub for_nothing : f ≡ None → None ≡ opened_for kinds xs p
     unfolding opened_for
     for_nothing h = rw (sym e ∙ h)
 
-    pub for_value : (o : Opened) (v : RawValue) (m : Meaning) (kind : ℕ) → f ≡ FoundValue.Value v → kind ≡ get_or kinds p.index 0 → m ≡ meaning_of p.operator kind → o ≡ opened_value m v (value_in xs v) → Some o ≡ opened_for kinds xs p
+    pub for_value : (o : Opened) (v : RawValue) (m : Meaning) (kind : ℕ) → f ≡ Some v → kind ≡ get_or kinds p.index 0 → m ≡ meaning_of p.operator kind → o ≡ opened_value m v (value_in xs v) → Some o ≡ opened_for kinds xs p
     unfolding opened_for
     for_value o v m kind h i j c = rw (sym e ∙ h) (ap Some (c ∙ ap (λ (n : Meaning). opened_value n v (value_in xs v)) (j ∙ ap (meaning_of p.operator) i)))
 

@@ -1,10 +1,9 @@
 -- What the value of a test reads to, opened once for many cards, and the cells that have it.
 -- Assumes nothing.
-use Rattle.std.specs.Prelude.{ℕ, ◌+◌, ◌*◌, ◌/◌, ◌%◌, ◌≤◌, ◌<◌, ◌≡◌, cond, List, eqb, ltb, ℤ, pos, length, get_or, Option, Some, None}
+use Rattle.std.specs.Prelude.{ℕ, ◌+◌, ◌*◌, ◌/◌, ◌%◌, ◌≤◌, ◌<◌, ◌≡◌, cond, List, eqb, ltb, ℤ, pos, length, get_or, Option, Some, None, true, false}
 use Rattle.base.specs.Parts.{part}
 use Rattle.syntax.specs.Scan.{value_at, contents}
 use Rattle.syntax.specs.declared.RawValue.{RawValue}
-use Rattle.syntax.specs.declared.FoundValue.{FoundValue}
 use Rattle.kind.specs.Table.{meaning_of}
 use Rattle.kind.specs.Readable.{is_true}
 use Rattle.kind.specs.declared.Meaning.{Meaning}
@@ -23,9 +22,9 @@ use Rattle.date.specs.declared.Date.{Date}
 unfoldable pub opened_value : Meaning → RawValue → List ℕ → Opened
 opened_value m v w = record { escaped = v.escaped; truth = is_true w; start = v.start; end = v.end; readings = readings_for m w }
 
-abbrev pub opened_by : List ℕ → Meaning → FoundValue → Option Opened
-opened_by xs m (FoundValue.Value v) = Some (opened_value m v (value_in xs v))
-opened_by xs m FoundValue.Nothing = None
+abbrev pub opened_by : List ℕ → Meaning → Option RawValue → Option Opened
+opened_by xs m (Some v) = Some (opened_value m v (value_in xs v))
+opened_by xs m None = None
 
 unfoldable pub opened_for : List ℕ → List ℕ → Probe → Option Opened
 opened_for kinds xs p = opened_by xs (meaning_of p.operator (get_or kinds p.index 0)) (value_at xs p.position)

@@ -11,8 +11,8 @@ use judge::readings_for;
 use kind::{Meaning, Readings};
 use number::Decimal;
 use rows::{Probe, Row, bit, row_of};
+use syntax::RawValue;
 use syntax::value::{decode, read_value};
-use syntax::{FoundValue, RawValue};
 
 // ---- the value of a test
 
@@ -58,11 +58,11 @@ fn opened_probe(kinds: &[u8], filter: &[u8], probe: Probe) -> Option<Opened>
         return None;
     }
     match read_value(filter, probe.position) {
-        FoundValue::Value(value) => {
+        Some(value) => {
             let meaning = kind::meaning_of(probe.operator, kind);
             Some(opened_text(meaning, filter, value))
         }
-        FoundValue::Nothing => None,
+        None => None,
     }
 }
 

@@ -26,7 +26,6 @@ use Rattle.syntax.specs.Tree.{Test, name, moved, under, Tree, test, bracketed, j
 use Rattle.syntax.specs.Grammar.{round, square, most_tests, TestAt, a_test, Item, Filter, item_test, item_bracket, item_not, item_bracketed, one_item, one_more, Spells}
 use Rattle.syntax.specs.Scan.{value_at}
 use Rattle.syntax.specs.declared.RawValue.{RawValue}
-use Rattle.syntax.specs.declared.FoundValue.{FoundValue}
 use Rattle.syntax.proofs.Tests.{test_found}
 use Rattle.kind.specs.Table.{has_meaning}
 use Rattle.kind.specs.Readable.{value_readable}
@@ -103,7 +102,7 @@ clean_under ps c b (t ∷ ts) (all_cons a h) =
 
 record Valued (xs : List ℕ) (t : Test) : Type 0 where
   raw : RawValue
-  found : value_at xs (value_place xs t.at) ≡ FoundValue.Value raw
+  found : value_at xs (value_place xs t.at) ≡ Some raw
   decodes : value_in xs raw ≡ t.value
 
 valued : {xs : List ℕ} {close p q : ℕ} {t : Test} → TestAt xs close p q t → is_bare close ≡ false → Valued xs t

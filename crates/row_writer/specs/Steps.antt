@@ -1,6 +1,6 @@
 -- What each step of writing rows leaves: the rows that a function writes by itself, and the filter that was read so far.
 -- Assumes nothing.
-use Rattle.std.specs.Prelude.{ℕ, ◌+◌, ◌-◌, ◌≤◌, ◌<◌, ◌≡◌, Bool, true, false, List, ◌++◌, length, take, set}
+use Rattle.std.specs.Prelude.{ℕ, ◌+◌, ◌-◌, ◌≤◌, ◌<◌, ◌≡◌, Bool, true, false, List, ◌++◌, length, take, set, Option, Some, None}
 use Rattle.base.specs.Parts.{part}
 use Rattle.base.specs.Runs.{RunEnd}
 use Rattle.sheet.specs.Sheet.{Parameter, parameters_of}
@@ -11,13 +11,11 @@ use Rattle.syntax.specs.Scan.{is_space, test_of, member_after, close_at}
 use Rattle.syntax.specs.Reader.{chain_of, item_at, filter_at, bracket_at, chosen_at}
 use Rattle.syntax.specs.declared.Connective.{Connective}
 use Rattle.syntax.specs.declared.RawTest.{RawTest}
-use Rattle.syntax.specs.declared.FoundTest.{FoundTest}
-use Rattle.syntax.specs.declared.FoundClose.{FoundClose}
 use Rattle.filter.specs.Folds.{join_summaries, reading}
 use Rattle.filter.specs.declared.Spot.{Spot}
 use Rattle.rows.specs.Cells.{cell_of, encode}
 use Rattle.rows.specs.declared.Row.{Row}
-use Rattle.row_writer.specs.Writing.{probe_for, prepared, outcome_of, Wrote}
+use Rattle.row_writer.specs.Writing.{probe_for, prepared, outcome_of, written, Wrote}
 use Rattle.row_writer.specs.declared.Outcome.{Outcome}
 use Rattle.row_writer.specs.declared.Written.{Written}
 
@@ -38,32 +36,32 @@ pub record Joinable (rows : List ℕ) (row : ℕ) (v w : Outcome) : Type 0 where
 
 -- a test, in its row
 pub record WroteTest (ps : List Parameter) (c : ℕ) (xs : List ℕ) (row : ℕ) (t : RawTest) (r : Written) (before after : List ℕ) : Type 0 where
-  pub answers : r ≡ Written.Done t.value.next (record { summary = (reading ps c).one (test_of xs t); cells = 1 })
+  pub answers : r ≡ written t.value.next (record { summary = (reading ps c).one (test_of xs t); cells = 1 })
   pub cells : after ≡ set before row (cell_of (Row.Test (probe_for ps xs c (test_of xs t))))
   pub room : row < length before
 
 -- not, behind the rows of a filter
 pub record WroteNot (end : ℕ) (v : Outcome) (row : ℕ) (r : Written) (before after : List ℕ) : Type 0 where
-  pub answers : r ≡ Written.Done end (record { summary = v.summary; cells = v.cells + 1 })
+  pub answers : r ≡ written end (record { summary = v.summary; cells = v.cells + 1 })
   pub cells : after ≡ set before (row + v.cells) (cell_of Row.Not)
   pub room : row + v.cells < length before
 
 -- where the brackets close behind the filter in them, which ends at q, after not or without it
-pub data WroteClosed (xs : List ℕ) (q : ℕ) (b : Bool) (v : Outcome) (row : ℕ) : Written → (before after : List ℕ) → Type 0 where
-  no_close : {l : List ℕ} → close_at xs round q ≡ FoundClose.Nothing → WroteClosed xs q b v row Written.Nothing l l
-  closed : {end : ℕ} {l : List ℕ} → close_at xs round q ≡ FoundClose.At end → b ≡ false → WroteClosed xs q b v row (Written.Done end v) l l
-  closed_not : {end : ℕ} {r : Written} {l m : List ℕ} → close_at xs round q ≡ FoundClose.At end → b ≡ true → WroteNot end v row r l m → WroteClosed xs q b v row r l m
+pub data WroteClosed (xs : List ℕ) (q : ℕ) (b : Bool) (v : Outcome) (row : ℕ) : Option Written → (before after : List ℕ) → Type 0 where
+  no_close : {l : List ℕ} → close_at xs round q ≡ None → WroteClosed xs q b v row None l l
+  closed : {end : ℕ} {l : List ℕ} → close_at xs round q ≡ Some end → b ≡ false → WroteClosed xs q b v row (Some (written end v)) l l
+  closed_not : {end : ℕ} {r : Written} {l m : List ℕ} → close_at xs round q ≡ Some end → b ≡ true → WroteNot end v row r l m → WroteClosed xs q b v row (Some r) l m
 
 -- brackets and the test of a member, before the rows of the filter in the brackets
 pub record WrotePair (ps : List Parameter) (c : ℕ) (xs : List ℕ) (at : ℕ) (t : RawTest) (v : Outcome) (row : ℕ) (r : Written) (before after : List ℕ) : Type 0 where
-  pub answers : r ≡ Written.Done t.value.next (record { summary = join_summaries ((reading ps c).one (moved at (test_of xs t))) v.summary; cells = v.cells + 2 })
+  pub answers : r ≡ written t.value.next (record { summary = join_summaries ((reading ps c).one (moved at (test_of xs t))) v.summary; cells = v.cells + 2 })
   pub cells : after ≡ set (set before row (cell_of (Row.Bracket v.cells))) (row + 1) (cell_of (Row.Test (probe_for ps xs c (test_of xs t))))
   pub room : row + 1 < length before
 
 -- the same where the test of a member follows the filter in the brackets, which ends at q
-pub data WroteMember (ps : List Parameter) (c : ℕ) (xs : List ℕ) (spot : Spot) (q : ℕ) (v : Outcome) (row : ℕ) : Written → (before after : List ℕ) → Type 0 where
-  no_member : {l : List ℕ} → member_after xs spot.close q ≡ FoundTest.Nothing → WroteMember ps c xs spot q v row Written.Nothing l l
-  a_member : {t : RawTest} {r : Written} {l m : List ℕ} → member_after xs spot.close q ≡ FoundTest.Test t → WrotePair ps c xs spot.at t v row r l m → WroteMember ps c xs spot q v row r l m
+pub data WroteMember (ps : List Parameter) (c : ℕ) (xs : List ℕ) (spot : Spot) (q : ℕ) (v : Outcome) (row : ℕ) : Option Written → (before after : List ℕ) → Type 0 where
+  no_member : {l : List ℕ} → member_after xs spot.close q ≡ None → WroteMember ps c xs spot q v row None l l
+  a_member : {t : RawTest} {r : Written} {l m : List ℕ} → member_after xs spot.close q ≡ Some t → WrotePair ps c xs spot.at t v row r l m → WroteMember ps c xs spot q v row (Some r) l m
 
 -- a connective, between the rows of its parts
 pub record WroteJoin (k : Connective) (v w : Outcome) (row : ℕ) (r : Outcome) (before after : List ℕ) : Type 0 where
@@ -97,16 +95,16 @@ pub record Chained (ps : List Parameter) (c : ℕ) (xs : List ℕ) (row close d 
 
 -- ---- what the walk has read and written at a spot, of a sheet's bytes and a text
 
-abbrev pub WroteItem : (sheet xs : List ℕ) → Spot → ℕ → Written → (before after : List ℕ) → Type 0
+abbrev pub WroteItem : (sheet xs : List ℕ) → Spot → ℕ → Option Written → (before after : List ℕ) → Type 0
 WroteItem sheet xs spot row = Wrote (parameters_of sheet) spot.bundle xs row (item_at spot.levels xs spot.close spot.at)
 
-abbrev pub WroteFilter : (sheet xs : List ℕ) → Spot → ℕ → Written → (before after : List ℕ) → Type 0
+abbrev pub WroteFilter : (sheet xs : List ℕ) → Spot → ℕ → Option Written → (before after : List ℕ) → Type 0
 WroteFilter sheet xs spot row = Wrote (parameters_of sheet) spot.bundle xs row (filter_at spot.levels xs spot.close spot.at)
 
-abbrev pub WroteRound : (sheet xs : List ℕ) → Spot → Bool → ℕ → Written → (before after : List ℕ) → Type 0
+abbrev pub WroteRound : (sheet xs : List ℕ) → Spot → Bool → ℕ → Option Written → (before after : List ℕ) → Type 0
 WroteRound sheet xs spot negate row = Wrote (parameters_of sheet) spot.bundle xs row (bracket_at spot.levels xs negate spot.at)
 
-abbrev pub WroteChosen : (sheet xs : List ℕ) → Spot → ℕ → ℕ → Written → (before after : List ℕ) → Type 0
+abbrev pub WroteChosen : (sheet xs : List ℕ) → Spot → ℕ → ℕ → Option Written → (before after : List ℕ) → Type 0
 WroteChosen sheet xs spot u row = Wrote (parameters_of sheet) spot.bundle xs row (chosen_at spot.levels xs spot.close spot.at u)
 
 abbrev pub ChainedAt : (sheet xs : List ℕ) → Spot → ℕ → List ℕ → ℕ → Outcome → List ℕ → Type 0

@@ -7,7 +7,6 @@ use Rattle.sheet.specs.declared.Found.{Found}
 use Rattle.syntax.specs.Tree.{Test, Tree, test, bracketed, join, negation, tests_of}
 use Rattle.syntax.specs.Scan.{skip_at, name_end, value_at}
 use Rattle.syntax.specs.Reader.{Parsed, parsed, unparsed}
-use Rattle.syntax.specs.declared.FoundValue.{FoundValue}
 use Rattle.syntax.specs.declared.RawTest.{RawTest}
 use Rattle.judge.specs.Sets.{lookup}
 use Rattle.filter.specs.Folds.{summary_of}
@@ -49,16 +48,20 @@ cell_count (negation f) = suc (cell_count f)
 abbrev pub outcome_of : List Parameter → ℕ → Tree → Outcome
 outcome_of ps c f = record { summary = summary_of ps c (tests_of f); cells = cell_count f }
 
-unfoldable pub written_of : List Parameter → ℕ → Parsed → Written
-written_of ps c (parsed q f) = Written.Done q (outcome_of ps c f)
-written_of ps c unparsed = Written.Nothing
+-- what was written up to q, with what was gathered
+abbrev pub written : ℕ → Outcome → Written
+written q v = record { end = q; outcome = v }
+
+unfoldable pub written_of : List Parameter → ℕ → Parsed → Option Written
+written_of ps c (parsed q f) = Some (written q (outcome_of ps c f))
+written_of ps c unparsed = None
 
 -- the cells before the row are as they were, and those of the expression follow them
-pub record Wrote (ps : List Parameter) (c : ℕ) (xs : List ℕ) (row : ℕ) (o : Parsed) (r : Written) (before after : List ℕ) : Type 0 where
+pub record Wrote (ps : List Parameter) (c : ℕ) (xs : List ℕ) (row : ℕ) (o : Parsed) (r : Option Written) (before after : List ℕ) : Type 0 where
   pub answers : r ≡ written_of ps c o
   pub cells : (q : ℕ) (f : Tree) → o ≡ parsed q f → take (row + cell_count f) after ≡ take row before ++ encode (prepared ps xs c f)
   pub size : length after ≡ length before
 
 -- the value that was read with a test stands where the test's value begins
 pub record Read (xs : List ℕ) (t : RawTest) : Type 0 where
-  pub found : value_at xs (value_place xs t.at) ≡ FoundValue.Value t.value
+  pub found : value_at xs (value_place xs t.at) ≡ Some t.value

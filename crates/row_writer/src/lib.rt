@@ -13,9 +13,9 @@ pub struct Outcome {
     pub cells: usize,
 }
 
-// Where a filter or an item that was read ends, and what was gathered; or that there is none.
+// Where a filter or an item that was read ends, and what was gathered.
 #[derive(Clone, Copy)]
-pub enum Written {
-    Done(usize, Outcome),
-    Nothing,
+pub struct Written {
+    pub end: usize,
+    pub outcome: Outcome,
 }

@@ -17,8 +17,7 @@ use rows::Row;
 use sheet::Found;
 use syntax::scan::skip;
 use syntax::{
-    Connective, FoundClose, FoundConnective, FoundTest, Head, RawTest, RawValue, read_close,
-    read_connective, read_head, read_member,
+    Connective, Head, RawTest, RawValue, read_close, read_connective, read_head, read_member,
 };
 
 // The index of what a test names, and 0 where it names nothing.
@@ -72,8 +71,10 @@ fn write_test(
 {
     rows[row] = 8 * test_number(sheet, bundle, filter, test);
     let summary = test_summary(sheet, bundle, filter, test.at, test);
-    let value = test.value;
-    Written::Done(value.next, Outcome { summary, cells: 1 })
+    Written {
+        end: test.value.next,
+        outcome: Outcome { summary, cells: 1 },
+    }
 }
 
 // The row of not, behind the rows of a filter that was read up to its bracket.
@@ -81,40 +82,33 @@ fn write_not(end: usize, inner: Outcome, rows: &mut [u32], row: usize) -> Writte
     requires { row + inner.cells < length rows.old }
     ensures { WroteNot end inner row result rows.old rows.new }
 {
-    let summary = inner.summary;
-    let cells = inner.cells;
-    let last = row + cells;
-    rows[last] = 2;
-    Written::Done(
+    rows[row + inner.cells] = 2;
+    Written {
         end,
-        Outcome {
-            summary,
-            cells: cells + 1,
+        outcome: Outcome {
+            summary: inner.summary,
+            cells: inner.cells + 1,
         },
-    )
+    }
 }
 
-// The end of round brackets behind the filter in them, which was read up to `end` and has its rows written from a row on.
+// The end of round brackets behind the filter in them, which was read and has its rows written from a row on.
 fn close_round(
     filter: &[u8],
-    end: usize,
     negate: bool,
-    inner: Outcome,
+    inner: Written,
     rows: &mut [u32],
     row: usize,
-) -> Written
-    requires end_in_bounds { end ≤ length filter.now }
-    requires cells_in_bounds { row + inner.cells < length rows.old }
-    ensures { WroteClosed filter.now end negate inner row result rows.old rows.new }
+) -> Option<Written>
+    requires end_in_bounds { inner.end ≤ length filter.now }
+    requires cells_in_bounds { row + inner.outcome.cells < length rows.old }
+    ensures { WroteClosed filter.now inner.end negate inner.outcome row result rows.old rows.new }
 {
-    let closed = read_close(filter, b')', end);
-    let FoundClose::At(after) = closed else {
-        return Written::Nothing;
-    };
+    let end = read_close(filter, b')', inner.end)?;
     if negate {
-        return write_not(after, inner, rows, row);
+        return Some(write_not(end, inner.outcome, rows, row));
     }
-    Written::Done(after, inner)
+    Some(Written { end, ..inner })
 }
 
 // The filter in round brackets at a spot inside them, after not where `negate` says so. Its cells are written from a row on.
@@ -126,18 +120,15 @@ fn write_round(
     negate: bool,
     rows: &mut [u32],
     row: usize,
-) -> Written
+) -> Option<Written>
     requires sheet_value { read_sheet sheet.now ≡ Validity.WellFormed }
     requires room { Room filter.now rows.old row spot.at }
     requires close_value { spot.close ≡ round }
     requires row_lt_at { row < spot.at }
     ensures { WroteRound sheet.now filter.now spot negate row result rows.old rows.new }
 {
-    let inner = write_filter(sheet, filter, spot, rows, row);
-    let Written::Done(end, outcome) = inner else {
-        return Written::Nothing;
-    };
-    close_round(filter, end, negate, outcome, rows, row)
+    let inner = write_filter(sheet, filter, spot, rows, row)?;
+    close_round(filter, negate, inner, rows, row)
 }
 
 // The cell of brackets with so many rows in them.
@@ -192,42 +183,37 @@ fn write_pair(
     rows[row + 1] = 8 * test_number(sheet, bundle, filter, test);
     let outer = test_summary(sheet, bundle, filter, at, test);
     let summary = join_summaries(outer, inner.summary);
-    let value = test.value;
-    Written::Done(
-        value.next,
-        Outcome {
+    Written {
+        end: test.value.next,
+        outcome: Outcome {
             summary,
             cells: cells + 2,
         },
-    )
+    }
 }
 
-// The test of a member behind the filter in its bundle's brackets, which was read up to `end` and has its rows written; the bundle's name
-// begins at a spot.
+// The test of a member behind the filter in its bundle's brackets, which was read and has its rows written; the bundle's name begins at a
+// spot.
 fn write_member(
     sheet: &[u8],
     filter: &[u8],
     spot: Spot,
     bundle: u8,
-    end: usize,
-    inner: Outcome,
+    inner: Written,
     rows: &mut [u32],
     row: usize,
-) -> Written
+) -> Option<Written>
     requires sheet_value { read_sheet sheet.now ≡ Validity.WellFormed }
     requires filter_len_bound { length filter.now ≤ 1024 }
-    requires end_in_bounds { end ≤ length filter.now }
-    requires cells_in_bounds { row + inner.cells + 1 < length rows.old }
-    requires cells_bound { inner.cells ≤ 1024 }
-    requires tests_bound { inner.summary.tests < 1024 }
-    ensures { WroteMember (parameters_of sheet.now) bundle filter.now spot end inner row result rows.old rows.new }
+    requires end_in_bounds { inner.end ≤ length filter.now }
+    requires cells_in_bounds { row + inner.outcome.cells + 1 < length rows.old }
+    requires cells_bound { inner.outcome.cells ≤ 1024 }
+    requires tests_bound { inner.outcome.summary.tests < 1024 }
+    ensures { WroteMember (parameters_of sheet.now) bundle filter.now spot inner.end inner.outcome row result rows.old rows.new }
 {
-    let member = read_member(filter, spot.close, end);
-    let FoundTest::Test(test) = member else {
-        return Written::Nothing;
-    };
+    let test = read_member(filter, spot.close, inner.end)?;
     let at = spot.at;
-    write_pair(sheet, filter, bundle, at, test, inner, rows, row)
+    Some(write_pair(sheet, filter, bundle, at, test, inner.outcome, rows, row))
 }
 
 // The test of a member at a spot, after the filter in square brackets of the bundle whose name ends at `until`; the levels are those in
@@ -240,7 +226,7 @@ fn write_chosen(
     until: usize,
     rows: &mut [u32],
     row: usize,
-) -> Written
+) -> Option<Written>
     requires sheet_value { read_sheet sheet.now ≡ Validity.WellFormed }
     requires room { Room filter.now rows.old row spot.at }
     requires at_lt_until { spot.at < until }
@@ -248,17 +234,20 @@ fn write_chosen(
     ensures { WroteChosen sheet.now filter.now spot until row result rows.old rows.new }
 {
     let inside = inside_of(sheet, filter, spot, until);
-    let inner = write_filter(sheet, filter, inside, rows, row + 2);
-    let Written::Done(end, outcome) = inner else {
-        return Written::Nothing;
-    };
-    write_member(sheet, filter, spot, inside.bundle, end, outcome, rows, row)
+    let inner = write_filter(sheet, filter, inside, rows, row + 2)?;
+    write_member(sheet, filter, spot, inside.bundle, inner, rows, row)
 }
 
 // The item at a spot: "a test, a filter in round brackets, or not followed by a filter in round brackets", or the test of a member
 // after its bundle's brackets. Its cells are written from a row on.
 #[cycle(writing)]
-fn write_item(sheet: &[u8], filter: &[u8], spot: Spot, rows: &mut [u32], row: usize) -> Written
+fn write_item(
+    sheet: &[u8],
+    filter: &[u8],
+    spot: Spot,
+    rows: &mut [u32],
+    row: usize,
+) -> Option<Written>
     requires sheet_value { read_sheet sheet.now ≡ Validity.WellFormed }
     requires room { Room filter.now rows.old row spot.at }
     ensures { WroteItem sheet.now filter.now spot row result rows.old rows.new }
@@ -267,12 +256,12 @@ fn write_item(sheet: &[u8], filter: &[u8], spot: Spot, rows: &mut [u32], row: us
     let levels = spot.levels;
     let close = spot.close;
     let bundle = spot.bundle;
-    let head = read_head(filter, close, at);
+    let head = read_head(filter, close, at)?;
     match head {
-        Head::Test(test) => write_test(sheet, filter, bundle, test, rows, row),
+        Head::Test(test) => Some(write_test(sheet, filter, bundle, test, rows, row)),
         Head::Open(next, negate) => {
             if levels == 0 {
-                return Written::Nothing;
+                return None;
             }
             let inside = Spot {
                 at: next,
@@ -284,7 +273,7 @@ fn write_item(sheet: &[u8], filter: &[u8], spot: Spot, rows: &mut [u32], row: us
         }
         Head::Choice(until) => {
             if levels == 0 {
-                return Written::Nothing;
+                return None;
             }
             let member = Spot {
                 at,
@@ -294,7 +283,6 @@ fn write_item(sheet: &[u8], filter: &[u8], spot: Spot, rows: &mut [u32], row: us
             };
             write_chosen(sheet, filter, member, until, rows, row)
         }
-        Head::Nothing => Written::Nothing,
     }
 }
 
@@ -330,7 +318,7 @@ fn write_join(
     }
 }
 
-// The items that follow the one in hand, which begins at a spot, ends at `end` and has its cells from a row on. A connective's cell is
+// The items that follow the one in hand, which begins at a spot and has its cells from a row on. A connective's cell is
 // filled in behind its item.
 #[cycle(writing)]
 fn write_rest(
@@ -339,42 +327,25 @@ fn write_rest(
     spot: Spot,
     rows: &mut [u32],
     row: usize,
-    first_end: usize,
-    first: Outcome,
-) -> Written
+    first: Written,
+) -> Option<Written>
     requires sheet_value { read_sheet sheet.now ≡ Validity.WellFormed }
-    requires chained_at { ChainedAt sheet.now filter.now spot row rows.old first_end first rows.old }
+    requires chained_at { ChainedAt sheet.now filter.now spot row rows.old first.end first.outcome rows.old }
     ensures { WroteFilter sheet.now filter.now spot row result rows.old rows.new }
 {
-    let mut end = first_end;
-    let mut gathered = first;
-    loop {
-        let found = read_connective(filter, end);
-        match found {
-            FoundConnective::Next(next, connective) => {
-                let next_spot = Spot {
-                    at: next,
-                    levels: spot.levels,
-                    close: spot.close,
-                    bundle: spot.bundle,
-                };
-                let next_row = row + gathered.cells + 1;
-                let item = write_item(sheet, filter, next_spot, rows, next_row);
-                match item {
-                    Written::Done(item_end, second) => {
-                        gathered = write_join(connective, gathered, second, rows, row);
-                        end = item_end;
-                    }
-                    Written::Nothing => {
-                        return Written::Nothing;
-                    }
-                }
-            }
-            FoundConnective::Nothing => {
-                return Written::Done(end, gathered);
-            }
-        }
+    let mut read = first;
+    while let Some(link) = read_connective(filter, read.end) {
+        let next = Spot {
+            at: link.next,
+            ..spot
+        };
+        let item = write_item(sheet, filter, next, rows, row + read.outcome.cells + 1)?;
+        read = Written {
+            end: item.end,
+            outcome: write_join(link.connective, read.outcome, item.outcome, rows, row),
+        };
     }
+    Some(read)
 }
 
 // The filter at a spot: "one or more items joined by and or or", from left to right. Its cells are written from a row on.
@@ -385,14 +356,11 @@ pub fn write_filter(
     spot: Spot,
     rows: &mut [u32],
     row: usize,
-) -> Written
+) -> Option<Written>
     requires sheet_value { read_sheet sheet.now ≡ Validity.WellFormed }
     requires room { Room filter.now rows.old row spot.at }
     ensures { WroteFilter sheet.now filter.now spot row result rows.old rows.new }
 {
-    let first = write_item(sheet, filter, spot, rows, row);
-    let Written::Done(end, outcome) = first else {
-        return Written::Nothing;
-    };
-    write_rest(sheet, filter, spot, rows, row, end, outcome)
+    let first = write_item(sheet, filter, spot, rows, row)?;
+    write_rest(sheet, filter, spot, rows, row, first)
 }

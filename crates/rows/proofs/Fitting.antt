@@ -1,5 +1,6 @@
 -- Tests of rows, as the code goes through them.
 -- Assumes nothing.
+use Rattle.std.specs.Prelude.{Option, Some, None}
 use Prim.Native.Nat.{ℕ, ◌≤◌, ◌<◌}
 use native.Mathlib.Omega.{arith}
 use mathlib.Core.Path.{◌≡◌, sym, ap, ◌∙◌}
@@ -11,7 +12,6 @@ use borrow.Author.Tests.{lt-ltb, le-ltb, eq-eqb, ne_eqb}
 use Rattle.syntax.specs.Scan.{value_at}
 use Rattle.syntax.specs.declared.Connective.{Connective}
 use Rattle.syntax.specs.declared.RawValue.{RawValue}
-use Rattle.syntax.specs.declared.FoundValue.{FoundValue}
 use Rattle.kind.specs.Table.{has_meaning}
 use Rattle.kind.specs.Readable.{value_readable}
 use Rattle.rows.specs.Cells.{row_of}
@@ -53,12 +53,12 @@ module _ (kinds xs : List ℕ) (p : Probe) (f : Bool) (kind : ℕ) (e : f ≡ ki
     unfolding probe_fits value_at
     probe_outside o = rw (← same, sym e ∙ h, le-ltb p.position (length xs) (omega arith))
 
-    module _ (g : FoundValue) (i : g ≡ value_at xs p.position) where
-      pub probe_no_value : g ≡ FoundValue.Nothing → false ≡ probe_fits kinds xs p
+    module _ (g : Option RawValue) (i : g ≡ value_at xs p.position) where
+      pub probe_no_value : g ≡ None → false ≡ probe_fits kinds xs p
       unfolding probe_fits
       probe_no_value j = rw (← same, sym e ∙ h, sym i ∙ j)
 
-      pub probe_value : (v : RawValue) (r : Bool) → g ≡ FoundValue.Value v → r ≡ value_readable p.operator kind (value_in xs v) → r ≡ probe_fits kinds xs p
+      pub probe_value : (v : RawValue) (r : Bool) → g ≡ Some v → r ≡ value_readable p.operator kind (value_in xs v) → r ≡ probe_fits kinds xs p
       unfolding probe_fits
       probe_value v r j k = rw (← same, sym e ∙ h, sym i ∙ j) k
 

@@ -3,12 +3,14 @@
 -- (`fits-within`); for one test these are `probe_there` and `probe_fits_lem`. That the nesting agrees with the grammar's is known from file Nesting. Cells that state an expression are its
 -- cells, and an expression that fits can be written, so that the expression of `Good` is the one that the test finds (`good_states`).
 -- Assumes nothing.
+use Rattle.std.specs.Prelude.{Option, Some, None}
 use Prim.Native.Nat.{ℕ, zero, suc, ◌≤◌, ◌<◌}
 use native.Mathlib.Omega.{arith}
 use mathlib.Core.Path.{◌≡◌, refl, sym, ap, subst, ◌∙◌}
 use mathlib.Core.Bool.{Bool, true, false, cond, not, ◌&&◌}
 use mathlib.Core.Logic.{◌↔◌, ⊎_elim}
-use mathlib.Core.Option.{Option, none, some, none-ne-some}
+use mathlib.Core.Option as maybe
+use mathlib.Core.Option.{none, some, none-ne-some}
 use mathlib.Core.List.{List, ◌∷◌}
 use lib.Dec.{eqb, ltb, leb}
 use lib.ListN.{length, get_or, length-append}
@@ -23,7 +25,7 @@ use Rattle.sheet.specs.Find.{kinds_of, parents_of}
 use Rattle.sheet.specs.Encode.{WellFormedSheet, WellFormedParameter, HasParent, at_top, in_bundle}
 use Rattle.sheet.proofs.Listed.{at_listed, table_kind, table_listed}
 use Rattle.syntax.specs.Scan.{value_at}
-use Rattle.syntax.specs.declared.FoundValue.{FoundValue}
+use Rattle.syntax.specs.declared.RawValue.{RawValue}
 use Rattle.kind.specs.Table.{has_meaning}
 use Rattle.kind.specs.Rules.{ReadableValue}
 use Rattle.kind.proofs.Rules.{value_iff, operator_iff}
@@ -32,7 +34,6 @@ use Rattle.rows.specs.Cells.{stated_in, stated, Sayable, Writable, writable_test
 use Rattle.rows.specs.Good.{ValueFrom, FitsTo, Fits, fits_test, fits_bracket, fits_join, fits_not, Good}
 use Rattle.rows.specs.Nesting.{shape_of, parts_in}
 use Rattle.rows.specs.Shapes.{kind_fits, value_in, value_fits, probe_fits, member_of, fits_in, good_by, good, shape_by}
-use Rattle.rows.specs.declared.FoundShape.{FoundShape}
 use Rattle.rows.specs.declared.Probe.{Probe}
 use Rattle.rows.specs.declared.Shape.{Shape}
 use Rattle.rows.proofs.Stating.{in_encode, in_cells, stated-encode, stated_are, stated-cells}
@@ -54,9 +55,9 @@ module _ (ps : List Parameter) (w : WellFormedSheet ps) (xs : List ℕ) where
   kind_there l z =
       ⊎_elim (λ k. omega (arith, z, k.lowest)) (λ (k : _ ≡ bundle_kind). let n : ◌≡◌ {A = ℕ} 0 7 = sym z ∙ k in omega (arith, n)) (listed_all WellFormedParameter w.parameters l).kind
 
-  found-fits : (k kind : ℕ) (f : FoundValue) (p : ℕ) → value_at xs p ≡ f → value_fits k kind xs f ≡ true → (v : List ℕ) × (ValueFrom xs p v × ReadableValue kind v k)
-  found-fits k kind (FoundValue.Value v) p e h = (value_in xs v, (found_from xs p v e, (value_iff kind (value_in xs v) k).0 h))
-  found-fits k kind FoundValue.Nothing p e h = both_ways h refl
+  found-fits : (k kind : ℕ) (f : Option RawValue) (p : ℕ) → value_at xs p ≡ f → value_fits k kind xs f ≡ true → (v : List ℕ) × (ValueFrom xs p v × ReadableValue kind v k)
+  found-fits k kind (Some v) p e h = (value_in xs v, (found_from xs p v e, (value_iff kind (value_in xs v) k).0 h))
+  found-fits k kind None p e h = both_ways h refl
 
   probe_there : (p : Probe) → probe_fits (kinds_of ps) xs p ≡ true → (q : Parameter) × (Listed ps p.index q × FitsTo xs q p)
   unfolding probe_fits kind_fits operator_words
@@ -171,7 +172,7 @@ module _ (ps : List Parameter) (w : WellFormedSheet ps) (xs : List ℕ) where
 
   -- ---- rows
 
-  good_of : (cs : List ℕ) (o : Option Expression) → stated cs ≡ o → good_by (kinds_of ps) (parents_of ps) xs o ≡ true → Good ps xs cs
+  good_of : (cs : List ℕ) (o : maybe.Option Expression) → stated cs ≡ o → good_by (kinds_of ps) (parents_of ps) xs o ≡ true → Good ps xs cs
   good_of cs none e h = both_ways h refl
   good_of cs (some f) e h =
       let few : Bool = leb (test_count f) 32 in
@@ -201,7 +202,7 @@ pub good_few : (kinds parents xs cs : List ℕ) → good kinds parents xs cs ≡
 unfolding good
 good_few kinds parents xs cs h = by_stated (stated cs) refl h
   where
-    by_stated : (o : Option Expression) → stated cs ≡ o → good_by kinds parents xs o ≡ true → length cs ≤ 320
+    by_stated : (o : maybe.Option Expression) → stated cs ≡ o → good_by kinds parents xs o ≡ true → length cs ≤ 320
     by_stated none e h = both_ways h refl
     by_stated (some f) e h =
         let few : Bool = leb (test_count f) 32 in
@@ -221,7 +222,7 @@ module _ (kinds parents xs cs : List ℕ) where
       by_test false e = refl
 
   -- 18 calls within calls are enough for brackets within the limit
-  enough : (o : Option Expression) → stated cs ≡ o → stated_in 18 cs ≡ none → good_by kinds parents xs o ≡ false
+  enough : (o : maybe.Option Expression) → stated cs ≡ o → stated_in 18 cs ≡ none → good_by kinds parents xs o ≡ false
   enough none i h = refl
   enough (some e) i h = by_depth (leb (shape_of e).chain 8) refl
     where
@@ -239,8 +240,8 @@ module _ (kinds parents xs cs : List ℕ) where
   states_so : (e : Expression) → stated_in 18 cs ≡ some e → stated cs ≡ some e
   states_so e h = let c = in_cells 18 cs e h in ap stated c.are ∙ stated-encode e c.writable
 
-  module _ (r : FoundShape) (h : r ≡ shape_by (fits_in kinds parents xs 0) (stated_in 18 cs)) where
-    pub none_good : r ≡ FoundShape.Nothing → false ≡ good kinds parents xs cs
+  module _ (r : Option Shape) (h : r ≡ shape_by (fits_in kinds parents xs 0) (stated_in 18 cs)) where
+    pub none_good : r ≡ None → false ≡ good kinds parents xs cs
     unfolding good
     none_good i = by_stated (stated_in 18 cs) refl
       where
@@ -249,7 +250,7 @@ module _ (kinds parents xs cs : List ℕ) where
         and_no true false = refl
         and_no false b = refl
 
-        by_stated : (o : Option Expression) → stated_in 18 cs ≡ o → false ≡ good_by kinds parents xs (stated cs)
+        by_stated : (o : maybe.Option Expression) → stated_in 18 cs ≡ o → false ≡ good_by kinds parents xs (stated cs)
         by_stated none j = sym (enough (stated cs) refl j)
         by_stated (some e) j =
             let misfits : fits_in kinds parents xs 0 e ≡ false = (not_found (fits_in kinds parents xs 0) (stated_in 18 cs) r h i).each e j in
@@ -257,7 +258,7 @@ module _ (kinds parents xs cs : List ℕ) where
             (ap (good_by kinds parents xs) (states_so e j) ∙ ap (λ (b : Bool). leb (test_count e) 32 && (leb (shape_of e).chain 8 && b)) misfits
             ∙ and_no (leb (test_count e) 32) (leb (shape_of e).chain 8))
 
-    module _ (s : Shape) (i : r ≡ FoundShape.Shape s) where
+    module _ (s : Shape) (i : r ≡ Some s) where
       good_is : good kinds parents xs cs ≡ (leb s.tests 32 && leb s.chain 8)
       unfolding good
       good_is =

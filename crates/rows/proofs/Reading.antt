@@ -3,11 +3,13 @@
 -- that does not fit is part of none that fits, whatever rows follow (`on_misfits`), and a part that is too large for the rows leaves nothing (`on_short`).
 -- Shapes are small, for an expression has no more tests and levels than rows.
 -- Assumes nothing.
+use Rattle.std.specs.Prelude.{Option, Some, None}
 use Prim.Native.Nat.{ℕ, zero, suc, ◌+◌, ◌-◌, ◌≤◌, ◌<◌}
 use native.Mathlib.Omega.{arith}
 use mathlib.Core.Path.{◌≡◌, refl, sym, ap, ap₂, subst, ◌∙◌}
 use mathlib.Core.Bool.{Bool, true, false, cond, ◌&&◌}
-use mathlib.Core.Option.{Option, none, some, none-ne-some, some-injective}
+use mathlib.Core.Option as maybe
+use mathlib.Core.Option.{none, some, none-ne-some, some-injective}
 use mathlib.Core.List.{List, [], ◌∷◌}
 use lib.Dec.{eqb}
 use lib.ListN.{length, get_or, take, drop, length-take, length-drop}
@@ -21,7 +23,6 @@ use Rattle.rows.specs.Cells.{row_of, and_then, next_row, on_from, after_brackets
 use Rattle.rows.specs.Nesting.{larger, deeper_shape, joined_shape, shape_of}
 use Rattle.rows.specs.Shapes.{probe_fits, member_of, member_by, fits_in, shape_by, Misfit, InHand, Began, began_at, began_nothing, BeganInBrackets}
 use Rattle.rows.specs.declared.Begun.{Begun}
-use Rattle.rows.specs.declared.FoundShape.{FoundShape}
 use Rattle.rows.specs.declared.Probe.{Probe}
 use Rattle.rows.specs.declared.Row.{Row}
 use Rattle.rows.specs.declared.Shape.{Shape}
@@ -54,10 +55,10 @@ pub record Found (fits : Expression → Bool) (k : ℕ) (cs : List ℕ) (s : Sha
   pub few_levels : s.chain < length cs
   pub few_brackets : s.item ≤ length cs
 
-pub found : (fits : Expression → Bool) (k : ℕ) (cs : List ℕ) (r : FoundShape) → r ≡ shape_by fits (stated_in k cs) → (s : Shape) → r ≡ FoundShape.Shape s → Found fits k cs s
+pub found : (fits : Expression → Bool) (k : ℕ) (cs : List ℕ) (r : Option Shape) → r ≡ shape_by fits (stated_in k cs) → (s : Shape) → r ≡ Some s → Found fits k cs s
 found fits k cs r h s i = by_stated (stated_in k cs) refl (sym i ∙ h)
   where
-    by_fits : (e : Expression) → stated_in k cs ≡ some e → (t : Bool) → fits e ≡ t → FoundShape.Shape s ≡ cond t (FoundShape.Shape (shape_of e)) FoundShape.Nothing → Found fits k cs s
+    by_fits : (e : Expression) → stated_in k cs ≡ some e → (t : Bool) → fits e ≡ t → Some s ≡ cond t (Some (shape_of e)) None → Found fits k cs s
     by_fits e j false f g = let z : ◌≡◌ {A = ℕ} 0 1 = cc in absurd (omega (arith, z))
     by_fits e j true f g =
         let same : s ≡ shape_of e = cc in
@@ -75,28 +76,28 @@ found fits k cs r h s i = by_stated (stated_in k cs) refl (sym i ∙ h)
           few_brackets = omega (arith, size, item, (levels_rows e).1);
         }
 
-    by_stated : (o : Option Expression) → stated_in k cs ≡ o → FoundShape.Shape s ≡ shape_by fits o → Found fits k cs s
+    by_stated : (o : maybe.Option Expression) → stated_in k cs ≡ o → Some s ≡ shape_by fits o → Found fits k cs s
     by_stated none j g = let z : ◌≡◌ {A = ℕ} 0 1 = cc in absurd (omega (arith, z))
     by_stated (some e) j g = by_fits e j (fits e) refl g
 
 -- nothing that fits
-pub not_found : (fits : Expression → Bool) (o : Option Expression) (r : FoundShape) → r ≡ shape_by fits o → r ≡ FoundShape.Nothing → Misfit fits o
+pub not_found : (fits : Expression → Bool) (o : maybe.Option Expression) (r : Option Shape) → r ≡ shape_by fits o → r ≡ None → Misfit fits o
 not_found fits o r h i = record { each = λ e j. by_fits e (fits e) refl (sym i ∙ h ∙ ap (shape_by fits) j) }
   where
-    by_fits : (e : Expression) (t : Bool) → fits e ≡ t → FoundShape.Nothing ≡ cond (fits e) (FoundShape.Shape (shape_of e)) FoundShape.Nothing → fits e ≡ false
+    by_fits : (e : Expression) (t : Bool) → fits e ≡ t → None ≡ cond (fits e) (Some (shape_of e)) None → fits e ≡ false
     by_fits e false f g = f
     by_fits e true f g =
-        let h : FoundShape.Nothing ≡ FoundShape.Shape (shape_of e) = g ∙ ap (λ (b : Bool). cond b (FoundShape.Shape (shape_of e)) FoundShape.Nothing) f in
+        let h : None ≡ Some (shape_of e) = g ∙ ap (λ (b : Bool). cond b (Some (shape_of e)) None) f in
         let z : ◌≡◌ {A = ℕ} 0 1 = cc in absurd (omega (arith, z))
 
-misfit_nothing : (fits : Expression → Bool) (o : Option Expression) → Misfit fits o → FoundShape.Nothing ≡ shape_by fits o
+misfit_nothing : (fits : Expression → Bool) (o : maybe.Option Expression) → Misfit fits o → None ≡ shape_by fits o
 misfit_nothing fits none m = refl
-misfit_nothing fits (some e) m = sym (ap (λ (b : Bool). cond b (FoundShape.Shape (shape_of e)) FoundShape.Nothing) (m.each e refl))
+misfit_nothing fits (some e) m = sym (ap (λ (b : Bool). cond b (Some (shape_of e)) None) (m.each e refl))
 
-misfit_none : (fits : Expression → Bool) (o : Option Expression) → o ≡ none → Misfit fits o
+misfit_none : (fits : Expression → Bool) (o : maybe.Option Expression) → o ≡ none → Misfit fits o
 misfit_none fits o h = record { each = λ e i. absurd (none-ne-some _ (sym h ∙ i)) }
 
-misfit_same : (fits : Expression → Bool) (o p : Option Expression) → o ≡ p → Misfit fits p → Misfit fits o
+misfit_same : (fits : Expression → Bool) (o p : maybe.Option Expression) → o ≡ p → Misfit fits p → Misfit fits o
 misfit_same fits o p h m = record { each = λ e i. m.each e (sym h ∙ i) }
 
 -- what is found in a part of few rows is small
@@ -104,7 +105,7 @@ module _ (rows : List ℕ) (a b : ℕ) (few : length rows ≤ 320) where
   pub part_few : length (part rows a b) ≤ 320
   part_few = omega (arith, few, length-take (b - a) (drop a rows), length-drop a rows)
 
-  module _ (fits : Expression → Bool) (k : ℕ) (r : FoundShape) (h : r ≡ shape_by fits (stated_in k (part rows a b))) (s : Shape) (i : r ≡ FoundShape.Shape s) where
+  module _ (fits : Expression → Bool) (k : ℕ) (r : Option Shape) (h : r ≡ shape_by fits (stated_in k (part rows a b))) (s : Shape) (i : r ≡ Some s) where
     pub tests_few : s.tests ≤ 320
     tests_few = omega (arith, part_few, (found fits k (part rows a b) r h s i).few_tests)
 
@@ -118,7 +119,7 @@ module _ (kinds parents xs : List ℕ) (c k : ℕ) where
   abbrev fits : Expression → Bool
   fits = fits_in kinds parents xs c
 
-  abbrev inner : List ℕ → Option Expression
+  abbrev inner : List ℕ → maybe.Option Expression
   inner l = stated_in k l
 
   -- ---- rows behind an expression
@@ -129,7 +130,7 @@ module _ (kinds parents xs : List ℕ) (c k : ℕ) where
   on_short (suc n) e [] h = refl
   on_short (suc n) e (d ∷ cs) h = on_short n e cs (omega (arith, h))
 
-  then_short : (o : Option Expression) (n : ℕ) (then : Expression → Expression) (cs : List ℕ) → length cs < n → and_then o (λ f. on_from inner n (then f) cs) ≡ none
+  then_short : (o : maybe.Option Expression) (n : ℕ) (then : Expression → Expression) (cs : List ℕ) → length cs < n → and_then o (λ f. on_from inner n (then f) cs) ≡ none
   then_short none n then cs h = refl
   then_short (some f) n then cs h = on_short n (then f) cs h
 
@@ -145,13 +146,13 @@ module _ (kinds parents xs : List ℕ) (c k : ℕ) where
       by_row Row.Not s = s 0 (negating e) h
       by_row (Row.Connect o n) s = by_part (inner (take n cs))
         where
-          by_part : (a : Option Expression) → Misfit fits (and_then a (λ f. on_from inner n (joining o e f) cs))
+          by_part : (a : maybe.Option Expression) → Misfit fits (and_then a (λ f. on_from inner n (joining o e f) cs))
           by_part none = misfit_none fits none refl
           by_part (some f) = s n (joining o e f) (rw h)
       by_row Row.Unknown s = misfit_none fits none refl
   on_misfits (suc n) e (d ∷ cs) h = on_misfits n e cs h
 
-  then_misfits : (o : Option Expression) (n : ℕ) (then : Expression → Expression) (cs : List ℕ) → ((f : Expression) → o ≡ some f → fits (then f) ≡ false) → Misfit fits (and_then o (λ f. on_from inner n (then f) cs))
+  then_misfits : (o : maybe.Option Expression) (n : ℕ) (then : Expression → Expression) (cs : List ℕ) → ((f : Expression) → o ≡ some f → fits (then f) ≡ false) → Misfit fits (and_then o (λ f. on_from inner n (then f) cs))
   then_misfits none n then cs h = misfit_none fits none refl
   then_misfits (some f) n then cs h = on_misfits n (then f) cs (h f refl)
 
@@ -164,12 +165,12 @@ module _ (kinds parents xs : List ℕ) (c k : ℕ) where
     pub hand_few_levels : length rows ≤ 320 → shape.chain ≤ 320
     hand_few_levels few = omega (arith, few, s.within, s.few_levels)
 
-    pub hand_end : length rows ≤ at → FoundShape.Shape shape ≡ shape_by fits (stated_in (suc k) rows)
+    pub hand_end : length rows ≤ at → Some shape ≡ shape_by fits (stated_in (suc k) rows)
     unfolding on_from
     hand_end h =
         let n : at ≡ length rows = omega (arith, h, s.within) in
         let all : stated_in (suc k) rows ≡ some s.expression = s.rest ∙ ap (on_from inner 0 s.expression) (ap (λ (m : ℕ). drop m rows) n ∙ drop-length rows) in
-        ap FoundShape.Shape s.is ∙ sym (ap (shape_by fits) all ∙ ap (λ (b : Bool). cond b (FoundShape.Shape (shape_of s.expression)) FoundShape.Nothing) s.fits)
+        ap Some s.is ∙ sym (ap (shape_by fits) all ∙ ap (λ (b : Bool). cond b (Some (shape_of s.expression)) None) s.fits)
 
     module _ (l : at < length rows) (q : Row) (i : q ≡ row_of (get_or rows at 0)) where
       abbrev behind : List ℕ
@@ -178,16 +179,16 @@ module _ (kinds parents xs : List ℕ) (c k : ℕ) where
       next : (p : Row) → q ≡ p → stated_in (suc k) rows ≡ next_row (λ n f. on_from inner n f behind) inner s.expression behind p
       next p j = s.rest ∙ ap (on_from inner 0 s.expression) (drop-cons rows at 0 l) ∙ on_row inner s.expression (get_or rows at 0) behind p (sym i ∙ j)
 
-      no_more : (p : Row) → q ≡ p → Misfit fits (next_row (λ n f. on_from inner n f behind) inner s.expression behind p) → FoundShape.Nothing ≡ shape_by fits (stated_in (suc k) rows)
+      no_more : (p : Row) → q ≡ p → Misfit fits (next_row (λ n f. on_from inner n f behind) inner s.expression behind p) → None ≡ shape_by fits (stated_in (suc k) rows)
       no_more p j m = misfit_nothing fits (stated_in (suc k) rows) (misfit_same fits (stated_in (suc k) rows) (next_row (λ n f. on_from inner n f behind) inner s.expression behind p) (next p j) m)
 
-      pub hand_test : (p : Probe) → q ≡ Row.Test p → FoundShape.Nothing ≡ shape_by fits (stated_in (suc k) rows)
+      pub hand_test : (p : Probe) → q ≡ Row.Test p → None ≡ shape_by fits (stated_in (suc k) rows)
       hand_test p j = no_more (Row.Test p) j (misfit_none fits none refl)
 
-      pub hand_bracket : (n : ℕ) → q ≡ Row.Bracket n → FoundShape.Nothing ≡ shape_by fits (stated_in (suc k) rows)
+      pub hand_bracket : (n : ℕ) → q ≡ Row.Bracket n → None ≡ shape_by fits (stated_in (suc k) rows)
       hand_bracket n j = no_more (Row.Bracket n) j (misfit_none fits none refl)
 
-      pub hand_unknown : q ≡ Row.Unknown → FoundShape.Nothing ≡ shape_by fits (stated_in (suc k) rows)
+      pub hand_unknown : q ≡ Row.Unknown → None ≡ shape_by fits (stated_in (suc k) rows)
       hand_unknown j = no_more Row.Unknown j (misfit_none fits none refl)
 
       pub hand_not : (r : Shape) → q ≡ Row.Not → r ≡ deeper_shape shape 0 → InHand kinds parents xs c k rows (at + 1) r
@@ -207,7 +208,7 @@ module _ (kinds parents xs : List ℕ) (c k : ℕ) where
           }
 
       module _ (o : Connective) (n : ℕ) (j : q ≡ Row.Connect o n) where
-        pub hand_large : length rows - (at + 1) < n → FoundShape.Nothing ≡ shape_by fits (stated_in (suc k) rows)
+        pub hand_large : length rows - (at + 1) < n → None ≡ shape_by fits (stated_in (suc k) rows)
         hand_large h =
             no_more (Row.Connect o n) j
             (misfit_none fits (and_then (inner (take n behind)) (λ f. on_from inner n (joining o s.expression f) behind))
@@ -226,8 +227,8 @@ module _ (kinds parents xs : List ℕ) (c k : ℕ) where
           second-size : length second_rows ≡ n
           second-size = part_length rows (at + 1) (at + 1 + n) (omega (arith, l, room)) ∙ (omega arith)
 
-          module _ (b : FoundShape) (h : b ≡ shape_by fits (stated_in k second_rows)) where
-            pub hand_nothing : b ≡ FoundShape.Nothing → FoundShape.Nothing ≡ shape_by fits (stated_in (suc k) rows)
+          module _ (b : Option Shape) (h : b ≡ shape_by fits (stated_in k second_rows)) where
+            pub hand_nothing : b ≡ None → None ≡ shape_by fits (stated_in (suc k) rows)
             unfolding fits_in
             hand_nothing z =
                 no_more (Row.Connect o n) j
@@ -238,7 +239,7 @@ module _ (kinds parents xs : List ℕ) (c k : ℕ) where
                 nothing true = refl
                 nothing false = refl
 
-            pub hand_join : (d r : Shape) → b ≡ FoundShape.Shape d → r ≡ joined_shape shape d → InHand kinds parents xs c k rows (at + 1 + n) r
+            pub hand_join : (d r : Shape) → b ≡ Some d → r ≡ joined_shape shape d → InHand kinds parents xs c k rows (at + 1 + n) r
             unfolding shape_of fits_in
             hand_join d r z e =
                 let w = found fits k second_rows b h d z in
@@ -250,7 +251,7 @@ module _ (kinds parents xs : List ℕ) (c k : ℕ) where
                 record {
                   expression = g;
                   rest = next (Row.Connect o n) j
-                      ∙ ap (λ (a : Option Expression). and_then a (λ f. on_from inner n (joining o s.expression f) behind)) (ap inner (sym part_is) ∙ w.states)
+                      ∙ ap (λ (a : maybe.Option Expression). and_then a (λ f. on_from inner n (joining o s.expression f) behind)) (ap inner (sym part_is) ∙ w.states)
                       ∙ on_skip inner n g behind (omega (arith, room, length-drop (suc at) rows))
                       ∙ ap (on_from inner 0 g) (drop-drop n (suc at) rows ∙ ap (λ (m : ℕ). drop m rows) to);
                   fits = ap₂ (λ (x y : Bool). x && y) s.fits w.fitting;
@@ -267,19 +268,19 @@ module _ (kinds parents xs : List ℕ) (c k : ℕ) where
   first_step rows z p j = ap (whole_by inner) (drop-cons rows 0 0 (omega (arith, z))) ∙ ap (by_first inner (drop 1 rows)) j
 
   module _ (rows : List ℕ) (z : 1 ≤ length rows) where
-    no_first : (p : Row) → row_of (get_or rows 0 0) ≡ p → Misfit fits (by_first inner (drop 1 rows) p) → Began kinds parents xs c k rows Begun.Nothing
+    no_first : (p : Row) → row_of (get_or rows 0 0) ≡ p → Misfit fits (by_first inner (drop 1 rows) p) → Began kinds parents xs c k rows None
     no_first p j m = began_nothing (misfit_same fits (stated_in (suc k) rows) (by_first inner (drop 1 rows) p) (first_step rows z p j) m)
 
     module _ (q : Row) (i : q ≡ row_of (get_or rows 0 0)) where
       module _ (p : Probe) (j : q ≡ Row.Test p) (t : Bool) (h : t ≡ (probe_fits kinds xs p && eqb (get_or parents p.index 0) c)) where
-        pub first_misfits : t ≡ false → Began kinds parents xs c k rows Begun.Nothing
+        pub first_misfits : t ≡ false → Began kinds parents xs c k rows None
         unfolding fits_in
         first_misfits y = no_first (Row.Test p) (sym i ∙ j) (on_misfits 0 (probing p) (drop 1 rows) (sym h ∙ y))
 
-        pub first_fits : t ≡ true → Began kinds parents xs c k rows (Begun.At (record { tests = 1; chain = 0; item = 0 }) 1)
+        pub first_fits : t ≡ true → Began kinds parents xs c k rows (Some (record { shape = record { tests = 1; chain = 0; item = 0 }; next = 1 }))
         unfolding shape_of fits_in
         first_fits y =
-            began_at {next = 1}
+            began_at
             (record {
               expression = probing p;
               rest = first_step rows z (Row.Test p) (sym i ∙ j);
@@ -290,17 +291,17 @@ module _ (kinds parents xs : List ℕ) (c k : ℕ) where
               few_levels = omega arith;
             })
 
-      pub first_not : q ≡ Row.Not → Began kinds parents xs c k rows Begun.Nothing
+      pub first_not : q ≡ Row.Not → Began kinds parents xs c k rows None
       first_not j = no_first Row.Not (sym i ∙ j) (misfit_none fits none refl)
 
-      pub first_connect : (o : Connective) (n : ℕ) → q ≡ Row.Connect o n → Began kinds parents xs c k rows Begun.Nothing
+      pub first_connect : (o : Connective) (n : ℕ) → q ≡ Row.Connect o n → Began kinds parents xs c k rows None
       first_connect o n j = no_first (Row.Connect o n) (sym i ∙ j) (misfit_none fits none refl)
 
-      pub first_unknown : q ≡ Row.Unknown → Began kinds parents xs c k rows Begun.Nothing
+      pub first_unknown : q ≡ Row.Unknown → Began kinds parents xs c k rows None
       first_unknown j = no_first Row.Unknown (sym i ∙ j) (misfit_none fits none refl)
 
       -- there are no brackets in brackets
-      pub first-inside : (n : ℕ) → q ≡ Row.Bracket n → 0 < c → Began kinds parents xs c k rows Begun.Nothing
+      pub first-inside : (n : ℕ) → q ≡ Row.Bracket n → 0 < c → Began kinds parents xs c k rows None
       unfolding fits_in
       first-inside n j h = no_first (Row.Bracket n) (sym i ∙ j) (by_rows (drop 1 rows))
         where
@@ -315,7 +316,7 @@ module _ (kinds parents xs : List ℕ) (c k : ℕ) where
           by_rows [] = misfit_none fits none refl
           by_rows (d ∷ ds) = by_row ds (row_of d)
 
-      pub first_bracket : (n : ℕ) (r : Begun) → q ≡ Row.Bracket n → c ≤ 0 → BeganInBrackets kinds parents xs k rows n r → Began kinds parents xs c k rows r
+      pub first_bracket : (n : ℕ) (r : Option Begun) → q ≡ Row.Bracket n → c ≤ 0 → BeganInBrackets kinds parents xs k rows n r → Began kinds parents xs c k rows r
       first_bracket n r j top b = let scope : 0 ≡ c = omega arith in subst (λ (x : ℕ). Began kinds parents xs x k rows r) scope (b.began (sym i ∙ j) z)
 
 -- ---- a test after brackets
@@ -324,13 +325,13 @@ module _ (kinds parents xs : List ℕ) (k : ℕ) (rows : List ℕ) (n : ℕ) whe
   abbrev top : Expression → Bool
   top = fits_in kinds parents xs 0
 
-  abbrev within : List ℕ → Option Expression
+  abbrev within : List ℕ → maybe.Option Expression
   within l = stated_in k l
 
-  no_brackets : Misfit top (in_brackets within n (drop 1 rows)) → BeganInBrackets kinds parents xs k rows n Begun.Nothing
+  no_brackets : Misfit top (in_brackets within n (drop 1 rows)) → BeganInBrackets kinds parents xs k rows n None
   no_brackets m = record { began = λ i z. no_first kinds parents xs 0 k rows z (Row.Bracket n) i m }
 
-  too_short : length (drop 1 rows) < n + 1 → BeganInBrackets kinds parents xs k rows n Begun.Nothing
+  too_short : length (drop 1 rows) < n + 1 → BeganInBrackets kinds parents xs k rows n None
   too_short h = no_brackets (misfit_none top (in_brackets within n (drop 1 rows)) (by_rows (drop 1 rows) h))
     where
       by_row : (ds : List ℕ) → length ds < n → (r : Row) → after_brackets within n ds r ≡ none
@@ -344,10 +345,10 @@ module _ (kinds parents xs : List ℕ) (k : ℕ) (rows : List ℕ) (n : ℕ) whe
       by_rows [] h = refl
       by_rows (d ∷ ds) h = by_row ds (omega (arith, h)) (row_of d)
 
-  pub brackets_short : length rows < 2 → BeganInBrackets kinds parents xs k rows n Begun.Nothing
+  pub brackets_short : length rows < 2 → BeganInBrackets kinds parents xs k rows n None
   brackets_short h = too_short (omega (arith, h, length-drop 1 rows))
 
-  pub brackets_large : length rows - 2 < n → BeganInBrackets kinds parents xs k rows n Begun.Nothing
+  pub brackets_large : length rows - 2 < n → BeganInBrackets kinds parents xs k rows n None
   brackets_large h = too_short (omega (arith, h, length-drop 1 rows))
 
   module _ (two : 2 ≤ length rows) (b : ℕ) (m : b ≡ member_by kinds parents xs (row_of (get_or rows 1 0))) where
@@ -355,10 +356,10 @@ module _ (kinds parents xs : List ℕ) (k : ℕ) (rows : List ℕ) (n : ℕ) whe
     rest_is : in_brackets within n (drop 1 rows) ≡ after_brackets within n (drop 2 rows) (row_of (get_or rows 1 0))
     rest_is = ap (in_brackets within n) (drop-cons rows 1 0 (omega (arith, two)))
 
-    after_misfits : Misfit top (after_brackets within n (drop 2 rows) (row_of (get_or rows 1 0))) → BeganInBrackets kinds parents xs k rows n Begun.Nothing
+    after_misfits : Misfit top (after_brackets within n (drop 2 rows) (row_of (get_or rows 1 0))) → BeganInBrackets kinds parents xs k rows n None
     after_misfits w = no_brackets (misfit_same top (in_brackets within n (drop 1 rows)) (after_brackets within n (drop 2 rows) (row_of (get_or rows 1 0))) rest_is w)
 
-    pub brackets_no_member : b ≡ 0 → BeganInBrackets kinds parents xs k rows n Begun.Nothing
+    pub brackets_no_member : b ≡ 0 → BeganInBrackets kinds parents xs k rows n None
     unfolding fits_in
     brackets_no_member y = after_misfits (by_row (row_of (get_or rows 1 0)) (sym m ∙ y))
       where
@@ -369,7 +370,7 @@ module _ (kinds parents xs : List ℕ) (k : ℕ) (rows : List ℕ) (n : ℕ) whe
         by_row (Row.Connect o j) h = misfit_none top none refl
         by_row Row.Unknown h = misfit_none top none refl
 
-    module _ (some-bundle : b ≡ 0 → ⊥) (room : n ≤ length rows - 2) (a : FoundShape) (h : a ≡ shape_by (fits_in kinds parents xs b) (stated_in k (part rows 2 (n + 2)))) where
+    module _ (some-bundle : b ≡ 0 → ⊥) (room : n ≤ length rows - 2) (a : Option Shape) (h : a ≡ shape_by (fits_in kinds parents xs b) (stated_in k (part rows 2 (n + 2)))) where
       inner_is : part rows 2 (n + 2) ≡ take n (drop 2 rows)
       inner_is = let size : n + 2 - 2 ≡ n = omega arith in ap (λ (j : ℕ). take j (drop 2 rows)) size
 
@@ -387,7 +388,7 @@ module _ (kinds parents xs : List ℕ) (k : ℕ) (rows : List ℕ) (n : ℕ) whe
       unfolding fits_in
       fits-same p i e = rw (i, ne_eqb b 0 some-bundle)
 
-      pub brackets_nothing : a ≡ FoundShape.Nothing → BeganInBrackets kinds parents xs k rows n Begun.Nothing
+      pub brackets_nothing : a ≡ None → BeganInBrackets kinds parents xs k rows n None
       brackets_nothing i =
           let t = the_test (row_of (get_or rows 1 0)) (sym m) in
           let p : Probe = t.0 in
@@ -396,7 +397,7 @@ module _ (kinds parents xs : List ℕ) (k : ℕ) (rows : List ℕ) (n : ℕ) whe
           (then_misfits kinds parents xs 0 k (within (take n (drop 2 rows))) n (λ e. choosing e p) (drop 2 rows)
           (λ e g. fits-same p t.1.1 e ∙ (not_found (fits_in kinds parents xs b) (stated_in k (part rows 2 (n + 2))) a h i).each e (ap within inner_is ∙ g))))
 
-      pub brackets_found : (d r : Shape) → a ≡ FoundShape.Shape d → r ≡ deeper_shape d 1 → BeganInBrackets kinds parents xs k rows n (Begun.At r (n + 2))
+      pub brackets_found : (d r : Shape) → a ≡ Some d → r ≡ deeper_shape d 1 → BeganInBrackets kinds parents xs k rows n (Some (record { shape = r; next = n + 2 }))
       unfolding shape_of
       brackets_found d r i e =
           let t = the_test (row_of (get_or rows 1 0)) (sym m) in
@@ -407,11 +408,11 @@ module _ (kinds parents xs : List ℕ) (k : ℕ) (rows : List ℕ) (n : ℕ) whe
           let tests : r.tests ≡ d.tests + 1 = ap (λ (x : Shape). x.tests) e in
           let chain : r.chain ≡ d.chain + 1 = ap (λ (x : Shape). x.chain) e in
           record {
-            began = λ j z. began_at {next = n + 2}
+            began = λ j z. began_at
                 (record {
                   expression = f;
                   rest = first_step kinds parents xs 0 k rows z (Row.Bracket n) j ∙ rest_is ∙ ap (after_brackets within n (drop 2 rows)) t.1.0
-                      ∙ ap (λ (x : Option Expression). and_then x (λ e. on_from within n (choosing e p) (drop 2 rows))) (ap within (sym inner_is) ∙ w.states)
+                      ∙ ap (λ (x : maybe.Option Expression). and_then x (λ e. on_from within n (choosing e p) (drop 2 rows))) (ap within (sym inner_is) ∙ w.states)
                       ∙ on_skip within n f (drop 2 rows) (omega (arith, room, two, length-drop 2 rows))
                       ∙ ap (on_from within 0 f) (drop-drop n 2 rows ∙ ap (λ (x : ℕ). drop x rows) to);
                   fits = fits-same p t.1.1 w.expression ∙ w.fitting;
@@ -425,15 +426,15 @@ module _ (kinds parents xs : List ℕ) (k : ℕ) (rows : List ℕ) (n : ℕ) whe
 -- ---- all rows
 
 module _ (fits : Expression → Bool) (rows : List ℕ) (k : ℕ) where
-  pub no_calls : k ≡ 0 → FoundShape.Nothing ≡ shape_by fits (stated_in k rows)
+  pub no_calls : k ≡ 0 → None ≡ shape_by fits (stated_in k rows)
   unfolding stated_in
   no_calls e = rw e
 
-  pub no_rows : length rows ≡ 0 → FoundShape.Nothing ≡ shape_by fits (stated_in k rows)
+  pub no_rows : length rows ≡ 0 → None ≡ shape_by fits (stated_in k rows)
   unfolding stated_in
   no_rows e = by_calls k rows e
     where
-      by_calls : (j : ℕ) (l : List ℕ) → length l ≡ 0 → FoundShape.Nothing ≡ shape_by fits (stated_in j l)
+      by_calls : (j : ℕ) (l : List ℕ) → length l ≡ 0 → None ≡ shape_by fits (stated_in j l)
       by_calls zero l z = refl
       by_calls (suc j) [] z = refl
       by_calls (suc j) (d ∷ l) z = absurd (omega (arith, z))
@@ -442,16 +443,15 @@ module _ (kinds parents xs : List ℕ) (c : ℕ) (rows : List ℕ) (k : ℕ) (so
   calls_are : suc (k - 1) ≡ k
   calls_are = omega (arith, some-calls)
 
-  pub began_read : (r : FoundShape) → r ≡ shape_by (fits_in kinds parents xs c) (stated_in (suc (k - 1)) rows) → r ≡ shape_by (fits_in kinds parents xs c) (stated_in k rows)
+  pub began_read : (r : Option Shape) → r ≡ shape_by (fits_in kinds parents xs c) (stated_in (suc (k - 1)) rows) → r ≡ shape_by (fits_in kinds parents xs c) (stated_in k rows)
   began_read r e = e ∙ ap (λ (m : ℕ). shape_by (fits_in kinds parents xs c) (stated_in m rows)) calls_are
 
-  pub began_none : (b : Begun) → Began kinds parents xs c (k - 1) rows b → b ≡ Begun.Nothing → FoundShape.Nothing ≡ shape_by (fits_in kinds parents xs c) (stated_in k rows)
-  began_none (Begun.At s m) (began_at w) j = let z : ◌≡◌ {A = ℕ} 0 1 = cc in absurd (omega (arith, z))
-  began_none Begun.Nothing (began_nothing w) j = began_read FoundShape.Nothing (misfit_nothing (fits_in kinds parents xs c) (stated_in (suc (k - 1)) rows) w)
+  pub began_none : (b : Option Begun) → Began kinds parents xs c (k - 1) rows b → b ≡ None → None ≡ shape_by (fits_in kinds parents xs c) (stated_in k rows)
+  began_none (Some s) (began_at w) j = let z : ◌≡◌ {A = ℕ} 0 1 = cc in absurd (omega (arith, z))
+  began_none None (began_nothing w) j = began_read None (misfit_nothing (fits_in kinds parents xs c) (stated_in (suc (k - 1)) rows) w)
 
-pub began_hand : (kinds parents xs : List ℕ) (c k : ℕ) (rows : List ℕ) (b : Begun) → Began kinds parents xs c k rows b → (s : Shape) (next : ℕ) → b ≡ Begun.At s next → InHand kinds parents xs c k rows next s
-began_hand kinds parents xs c k rows (Begun.At r m) (began_at w) s next j =
+pub began_hand : (kinds parents xs : List ℕ) (c k : ℕ) (rows : List ℕ) (b : Option Begun) → Began kinds parents xs c k rows b → (s : Begun) → b ≡ Some s → InHand kinds parents xs c k rows s.next s.shape
+began_hand kinds parents xs c k rows (Some r) (began_at w) s j =
     let same : r ≡ s = cc in
-    let to : m ≡ next = cc in
-    subst (λ (y : Shape). InHand kinds parents xs c k rows next y) same (subst (λ (y : ℕ). InHand kinds parents xs c k rows y r) to w)
-began_hand kinds parents xs c k rows Begun.Nothing (began_nothing w) s next j = let z : ◌≡◌ {A = ℕ} 0 1 = cc in absurd (omega (arith, z))
+    subst (λ (y : Begun). InHand kinds parents xs c k rows y.next y.shape) same w
+began_hand kinds parents xs c k rows None (began_nothing w) s j = let z : ◌≡◌ {A = ℕ} 0 1 = cc in absurd (omega (arith, z))

@@ -1,5 +1,6 @@
 -- The value that a position names is the one that the scanner finds there.
 -- Assumes nothing.
+use Rattle.std.specs.Prelude.{Some}
 use Prim.Native.Nat.{ℕ}
 use native.Mathlib.Omega.{arith}
 use native.Mathlib.Nat.{add-zero}
@@ -14,7 +15,6 @@ use Rattle.base.proofs.Tests.{decided}
 use Rattle.syntax.specs.Strings.{is_bare}
 use Rattle.syntax.specs.Scan.{value_at}
 use Rattle.syntax.specs.declared.RawValue.{RawValue}
-use Rattle.syntax.specs.declared.FoundValue.{FoundValue}
 use Rattle.syntax.proofs.Values.{Found, value_derives, value-named, value-ends}
 use Rattle.rows.specs.Good.{ValueFrom}
 use Rattle.rows.specs.Shapes.{value_in}
@@ -36,7 +36,7 @@ zero_not_bare : is_bare 0 ≡ false
 unfolding is_bare
 zero_not_bare = refl
 
-pub found_from : (xs : List ℕ) (p : ℕ) (v : RawValue) → value_at xs p ≡ FoundValue.Value v → ValueFrom xs p (value_in xs v)
+pub found_from : (xs : List ℕ) (p : ℕ) (v : RawValue) → value_at xs p ≡ Some v → ValueFrom xs p (value_in xs v)
 found_from xs p v e =
     record {
       end = v.next;

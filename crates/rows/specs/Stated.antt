@@ -1,12 +1,12 @@
 -- What rows state is a filter's tree: each test has the name of its parameter and the value that its position names, and a position of its
 -- own. Its meaning is that of any filter's tree.
 -- Assumes nothing.
-use Rattle.std.specs.Prelude.{ℕ, zero, suc, ◌-◌, List, [], ◌∷◌, get_or}
+use Rattle.std.specs.Prelude.{ℕ, zero, suc, ◌-◌, List, [], ◌∷◌, get_or, Option, Some, None}
 use Rattle.sheet.specs.Sheet.{Parameter}
 use Rattle.sheet.specs.Find.{parents_of}
 use Rattle.syntax.specs.Tree.{Test, name, Tree, test, bracketed, join, negation}
 use Rattle.syntax.specs.Scan.{value_at}
-use Rattle.syntax.specs.declared.FoundValue.{FoundValue}
+use Rattle.syntax.specs.declared.RawValue.{RawValue}
 use Rattle.rows.specs.Expression.{Expression, probing, choosing, joining, negating}
 use Rattle.rows.specs.Shapes.{value_in}
 use Rattle.rows.specs.declared.Probe.{Probe}
@@ -18,9 +18,9 @@ name_at zero (p ∷ ps) = p.name
 name_at (suc i) (p ∷ ps) = name_at i ps
 
 -- the bytes of the value that a position names
-abbrev pub value_by : List ℕ → FoundValue → List ℕ
-value_by xs (FoundValue.Value v) = value_in xs v
-value_by xs FoundValue.Nothing = []
+abbrev pub value_by : List ℕ → Option RawValue → List ℕ
+value_by xs (Some v) = value_in xs v
+value_by xs None = []
 
 -- the test that a row names: its parameter's name, its operator, and the value at its position of the text
 unfoldable pub test_for : List Parameter → List ℕ → Probe → Test

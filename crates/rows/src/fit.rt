@@ -9,8 +9,8 @@ use crate::cell::row_of;
 use crate::{Probe, Row};
 use base::kind::BUNDLE;
 use judge::has_meaning;
+use syntax::RawValue;
 use syntax::value::{decode, read_value};
-use syntax::{FoundValue, RawValue};
 
 // Whether a parameter of this kind is there, is no bundle, and has the operator.
 fn kind_fits(operator: u8, kind: u8) -> bool
@@ -60,8 +60,8 @@ fn probe_fits(kinds: &[u8], filter: &[u8], probe: Probe) -> bool
         return false;
     }
     match read_value(filter, probe.position) {
-        FoundValue::Value(value) => value_fits(probe.operator, kind, filter, value),
-        FoundValue::Nothing => false,
+        Some(value) => value_fits(probe.operator, kind, filter, value),
+        None => false,
     }
 }
 

@@ -38,16 +38,9 @@ pub struct Shape {
     pub item: usize,
 }
 
-// The shape of what rows state, where its tests fit; or that rows state nothing, or a test that does not fit.
+// The shape of the first test of rows, with the brackets before it, and the row behind.
 #[derive(Clone, Copy)]
-pub enum FoundShape {
-    Shape(Shape),
-    Nothing,
-}
-
-// The same of the first test of rows, with the brackets before it, and the row behind.
-#[derive(Clone, Copy)]
-pub enum Begun {
-    At(Shape, usize),
-    Nothing,
+pub struct Begun {
+    pub shape: Shape,
+    pub next: usize,
 }

@@ -7,7 +7,7 @@ ghost use Rattle.rows.specs.Shapes.{fits_in, shape_by, InHand, Began, BeganInBra
 
 use crate::cell::row_of;
 use crate::fit::{member_of, stands};
-use crate::{Begun, FoundShape, Row, Shape};
+use crate::{Begun, Row, Shape};
 
 fn larger(a: usize, b: usize) -> usize
     ensures { result ≡ larger a b }
@@ -57,7 +57,7 @@ fn shape_in_brackets(
     rows: &[u32],
     size: usize,
     calls: usize,
-) -> Begun
+) -> Option<Begun>
     requires kinds_len { length kinds.now ≡ 32 }
     requires parents_len { length parents.now ≡ 32 }
     requires filter_len_bound { length filter.now ≤ 1024 }
@@ -65,20 +65,21 @@ fn shape_in_brackets(
     ensures { BeganInBrackets kinds.now parents.now filter.now calls rows.now size result }
 {
     if rows.len() < 2 {
-        return Begun::Nothing;
+        return None;
     }
     if size > rows.len() - 2 {
-        return Begun::Nothing;
+        return None;
     }
     let bundle = member_of(kinds, parents, filter, rows[1]);
     if bundle == 0 {
-        return Begun::Nothing;
+        return None;
     }
     let end = size + 2;
-    match shape_of(kinds, parents, filter, &rows[2..end], bundle, calls) {
-        FoundShape::Shape(inner) => Begun::At(deeper(inner, 1), end),
-        FoundShape::Nothing => Begun::Nothing,
-    }
+    let inner = shape_of(kinds, parents, filter, &rows[2..end], bundle, calls)?;
+    Some(Begun {
+        shape: deeper(inner, 1),
+        next: end,
+    })
 }
 
 // Of the first test of rows, with the brackets before it, in a scope.
@@ -90,7 +91,7 @@ fn shape_of_first(
     rows: &[u32],
     scope: u8,
     calls: usize,
-) -> Begun
+) -> Option<Begun>
     requires kinds_len { length kinds.now ≡ 32 }
     requires parents_len { length parents.now ≡ 32 }
     requires filter_len_bound { length filter.now ≤ 1024 }
@@ -106,19 +107,19 @@ fn shape_of_first(
                     chain: 0,
                     item: 0,
                 };
-                return Begun::At(shape, 1);
+                return Some(Begun { shape, next: 1 });
             }
-            Begun::Nothing
+            None
         }
         Row::Bracket(size) => {
             if scope > 0 {
-                return Begun::Nothing;
+                return None;
             }
             shape_in_brackets(kinds, parents, filter, rows, size, calls)
         }
-        Row::Not => Begun::Nothing,
-        Row::Connect(_, _) => Begun::Nothing,
-        Row::Unknown => Begun::Nothing,
+        Row::Not => None,
+        Row::Connect(_, _) => None,
+        Row::Unknown => None,
     }
 }
 
@@ -131,18 +132,17 @@ fn shape_with(
     rows: &[u32],
     scope: u8,
     calls: usize,
-    first: Shape,
-    next: usize,
-) -> FoundShape
+    begun: Begun,
+) -> Option<Shape>
     requires kinds_len { length kinds.now ≡ 32 }
     requires parents_len { length parents.now ≡ 32 }
     requires filter_len_bound { length filter.now ≤ 1024 }
     requires rows_len_bound { length rows.now ≤ 320 }
-    requires in_hand { InHand kinds.now parents.now filter.now scope calls rows.now next first }
+    requires in_hand { InHand kinds.now parents.now filter.now scope calls rows.now begun.next begun.shape }
     ensures { result ≡ shape_by (fits_in kinds.now parents.now filter.now scope) (stated_in (suc calls) rows.now) }
 {
-    let mut shape = first;
-    let mut at = next;
+    let mut shape = begun.shape;
+    let mut at = begun.next;
     while at < rows.len() {
         match row_of(rows[at]) {
             Row::Not => {
@@ -152,32 +152,26 @@ fn shape_with(
             Row::Connect(_, size) => {
                 let start = at + 1;
                 if size > rows.len() - start {
-                    return FoundShape::Nothing;
+                    return None;
                 }
                 let end = start + size;
                 let part = &rows[start..end];
-                match shape_of(kinds, parents, filter, part, scope, calls) {
-                    FoundShape::Shape(second) => {
-                        shape = joined(shape, second);
-                        at = end;
-                    }
-                    FoundShape::Nothing => {
-                        return FoundShape::Nothing;
-                    }
-                }
+                let second = shape_of(kinds, parents, filter, part, scope, calls)?;
+                shape = joined(shape, second);
+                at = end;
             }
             Row::Test(_) => {
-                return FoundShape::Nothing;
+                return None;
             }
             Row::Bracket(_) => {
-                return FoundShape::Nothing;
+                return None;
             }
             Row::Unknown => {
-                return FoundShape::Nothing;
+                return None;
             }
         }
     }
-    FoundShape::Shape(shape)
+    Some(shape)
 }
 
 // Of what rows state in a scope, by at most so many calls within calls.
@@ -189,7 +183,7 @@ pub fn shape_of(
     rows: &[u32],
     scope: u8,
     calls: usize,
-) -> FoundShape
+) -> Option<Shape>
     requires kinds_len { length kinds.now ≡ 32 }
     requires parents_len { length parents.now ≡ 32 }
     requires filter_len_bound { length filter.now ≤ 1024 }
@@ -197,16 +191,12 @@ pub fn shape_of(
     ensures { result ≡ shape_by (fits_in kinds.now parents.now filter.now scope) (stated_in calls rows.now) }
 {
     if calls == 0 {
-        return FoundShape::Nothing;
+        return None;
     }
     if rows.len() == 0 {
-        return FoundShape::Nothing;
+        return None;
     }
     let inner = calls - 1;
-    match shape_of_first(kinds, parents, filter, rows, scope, inner) {
-        Begun::At(first, next) => {
-            shape_with(kinds, parents, filter, rows, scope, inner, first, next)
-        }
-        Begun::Nothing => FoundShape::Nothing,
-    }
+    let begun = shape_of_first(kinds, parents, filter, rows, scope, inner)?;
+    shape_with(kinds, parents, filter, rows, scope, inner, begun)
 }

@@ -2,7 +2,6 @@
 ghost use Rattle.std.specs.Prelude.{◌≡◌, ◌≤◌, length};
 ghost use Rattle.rows.specs.Shapes.{good};
 
-use crate::FoundShape;
 use crate::shapes::shape_of;
 
 // The most rows that an expression within both limits has.
@@ -22,12 +21,12 @@ pub fn are_good(kinds: &[u8], parents: &[u8], filter: &[u8], rows: &[u32]) -> bo
         return false;
     }
     match shape_of(kinds, parents, filter, rows, 0, MOST_CALLS) {
-        FoundShape::Shape(shape) => {
+        Some(shape) => {
             if shape.tests > 32 {
                 return false;
             }
             shape.chain <= 8
         }
-        FoundShape::Nothing => false,
+        None => false,
     }
 }

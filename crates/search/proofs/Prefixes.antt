@@ -5,6 +5,7 @@
 -- scan of crate syntax finds an operator exactly where its word stands; so where it finds none, or one that is no prefix, the text begins
 -- with no prefix (`without`).
 -- Assumes nothing.
+use Rattle.std.specs.Prelude.{Option, Some, None}
 use Prim.Native.Nat.{ℕ, ◌+◌, ◌≤◌, ◌<◌}
 use native.Mathlib.Omega.{arith}
 use mathlib.Core.Path.{◌≡◌, refl, ap, sym, ◌∙◌, subst}
@@ -23,7 +24,6 @@ use Rattle.base.proofs.Below.{passes_at}
 use Rattle.base.proofs.Tests.{decided, both_ways}
 use Rattle.base.specs.Kinds.{string, number, date, token}
 use Rattle.syntax.specs.Scan.{operator_at}
-use Rattle.syntax.specs.declared.FoundOperator.{FoundOperator}
 use Rattle.syntax.proofs.Operators.{operator_derives, operator-found}
 use Rattle.search.specs.Asking.{takes_prefix, prefixes, word_of, Comparison, prefixed, asked_of, PrefixOf}
 use Rattle.search.specs.declared.Prefixed.{Prefixed}
@@ -93,7 +93,7 @@ module _ (text : List ℕ) where
   as_asked : (o n : ℕ) (v : List ℕ) (asked : Comparison) → asked ≡ asks_for o v → drop n text ≡ v → n ≤ length text → PrefixOf asked text (with_prefix o n)
   as_asked o n v asked e d h = record { operator = sym (ap (λ (a : Comparison). a.operator) e); value = d ∙ sym (ap (λ (a : Comparison). a.value) e); within = h }
 
-  pub prefix_is : (f : FoundOperator) (t : Bool) (k : ℕ) → f ≡ operator_at text 0 → f ≡ FoundOperator.Is k → t ≡ member k prefixes → t ≡ true → PrefixOf (prefixed prefixes text) text (with_prefix k 2)
+  pub prefix_is : (f : Option ℕ) (t : Bool) (k : ℕ) → f ≡ operator_at text 0 → f ≡ Some k → t ≡ member k prefixes → t ≡ true → PrefixOf (prefixed prefixes text) text (with_prefix k 2)
   prefix_is f t k e h m u =
       let o = operator_derives text 0 k (sym e ∙ h) in
       let is : text ≡ word_of k ++ o.stands.0 = o.stands.1 in
@@ -108,7 +108,7 @@ module _ (text : List ℕ) where
       plus_zero n = omega arith
 
   -- no prefix stands at the beginning, where the operator read there is none
-  without : ((k : ℕ) → member k prefixes ≡ true → operator_at text 0 ≡ FoundOperator.Is k → ⊥) → PrefixOf (prefixed prefixes text) text (with_prefix 0 0)
+  without : ((k : ℕ) → member k prefixes ≡ true → operator_at text 0 ≡ Some k → ⊥) → PrefixOf (prefixed prefixes text) text (with_prefix 0 0)
   without n = as_asked eq 0 text (prefixed prefixes text) (no_prefix prefixes text never) refl (omega arith)
     where
       found_there : (k : ℕ) → member k prefixes ≡ true → has_prefix text (word_of k) ≡ true → ⊥
@@ -118,12 +118,12 @@ module _ (text : List ℕ) where
       never : (k : ℕ) → member k prefixes ≡ true → has_prefix text (word_of k) ≡ false
       never k m = ⊎_elim (λ h. absurd (found_there k m h)) (λ h. h) (decided (has_prefix text (word_of k)))
 
-  pub other_operator : (f : FoundOperator) (t : Bool) (k : ℕ) → f ≡ operator_at text 0 → f ≡ FoundOperator.Is k → t ≡ member k prefixes → t ≡ false → PrefixOf (prefixed prefixes text) text (with_prefix 0 0)
+  pub other_operator : (f : Option ℕ) (t : Bool) (k : ℕ) → f ≡ operator_at text 0 → f ≡ Some k → t ≡ member k prefixes → t ≡ false → PrefixOf (prefixed prefixes text) text (with_prefix 0 0)
   other_operator f t k e h m u =
-      without (λ j x y. let same : FoundOperator.Is k ≡ FoundOperator.Is j = sym h ∙ e ∙ y in let z : k ≡ j = cc in both_ways (ap (λ (i : ℕ). member i prefixes) z ∙ x) (sym m ∙ u))
+      without (λ j x y. let same : Some k ≡ Some j = sym h ∙ e ∙ y in let z : k ≡ j = cc in both_ways (ap (λ (i : ℕ). member i prefixes) z ∙ x) (sym m ∙ u))
 
-  pub no_operator : (f : FoundOperator) → f ≡ operator_at text 0 → f ≡ FoundOperator.Nothing → PrefixOf (prefixed prefixes text) text (with_prefix 0 0)
-  no_operator f e h = without (λ j x y. let same : FoundOperator.Nothing ≡ FoundOperator.Is j = sym h ∙ e ∙ y in let z : ◌≡◌ {A = ℕ} 0 1 = cc in omega arith)
+  pub no_operator : (f : Option ℕ) → f ≡ operator_at text 0 → f ≡ None → PrefixOf (prefixed prefixes text) text (with_prefix 0 0)
+  no_operator f e h = without (λ j x y. let same : None ≡ Some j = sym h ∙ e ∙ y in let z : ◌≡◌ {A = ℕ} 0 1 = cc in omega arith)
 
   module _ (kind : ℕ) (t : Bool) (e : t ≡ takes_prefix kind) where
     pub asked_by_prefix : (q : Prefixed) → PrefixOf (prefixed prefixes text) text q → t ≡ true → PrefixOf (asked_of kind text) text q

@@ -7,7 +7,6 @@ ghost use Rattle.search.specs.Asking.{takes_prefix, prefixes, prefixed, asked_of
 use crate::Prefixed;
 use base::kind::{DATE, NUMBER, PERIOD, STRING, TOKEN};
 use base::operator::{EB, EQ, GE, GT, LE, LT, NE, RE, SA, SW};
-use syntax::FoundOperator;
 use syntax::test::read_operator;
 
 // Whether texts of the kind take a prefix.
@@ -38,7 +37,7 @@ fn prefix_asked(text: &[u8]) -> Prefixed
     ensures { PrefixOf (prefixed prefixes text.now) text.now result }
 {
     match read_operator(text, 0) {
-        FoundOperator::Is(k) => {
+        Some(k) => {
             if is_prefix(k) {
                 return Prefixed {
                     operator: k,
@@ -50,7 +49,7 @@ fn prefix_asked(text: &[u8]) -> Prefixed
                 skip: 0,
             };
         }
-        FoundOperator::Nothing => Prefixed {
+        None => Prefixed {
             operator: EQ,
             skip: 0,
         },

@@ -4,6 +4,7 @@
 -- that of the whole (`chain_longer`, by induction on the fuel). A turn writes the connective and the item behind what was written, and that
 -- is the spelling of the join (`chained_next`).
 -- Assumes nothing.
+use Rattle.std.specs.Prelude.{Option, Some, None}
 use Prim.Native.Nat.{ℕ, zero, suc, ◌+◌, ◌-◌, ◌≤◌}
 use native.Mathlib.Omega.{arith}
 use mathlib.Core.Path.{◌≡◌, refl, sym, ap, ◌∙◌}
@@ -13,7 +14,7 @@ use lib.ListN.{length, length-append}
 use Rattle.syntax.specs.Tree.{Tree, join}
 use Rattle.syntax.specs.Scan.{connective_at}
 use Rattle.syntax.specs.declared.Connective.{Connective}
-use Rattle.syntax.specs.declared.FoundConnective.{FoundConnective}
+use Rattle.syntax.specs.declared.Link.{Link}
 use Rattle.syntax.specs.Reader.{Parsed, parsed, unparsed, and_then, chain_by, chain_of, item_at, filter_at}
 use Rattle.syntax.proofs.Complete.{filter_step, chain_step}
 use Rattle.syntax.proofs.Places.{connective_ahead}
@@ -50,12 +51,12 @@ unfolding chain_of
 chain_longer zero xs item p q f all e = never e
 chain_longer (suc k) xs item p q f all e = go (λ n u. chain_longer k xs item n q u all) (connective_at xs p) e
   where
-    go : ((n : ℕ) (u : Tree) → chain_of k xs item n u ≡ parsed q all → length (plain u) ≤ length (plain all)) → (c : FoundConnective) → chain_by p f item (λ e u. chain_of k xs item e u) c ≡ parsed q all → length (plain f) ≤ length (plain all)
-    go on (FoundConnective.Next m a) h =
-        let j = then_item xs item k m a f q all h in
-        let i = on j.end (join a f j.tree) j.rest in
-        omega (arith, join_longer a f j.tree)
-    go on FoundConnective.Nothing h = let s : f ≡ all = same_tree h in omega (arith, ap (λ (x : Tree). length (plain x)) s)
+    go : ((n : ℕ) (u : Tree) → chain_of k xs item n u ≡ parsed q all → length (plain u) ≤ length (plain all)) → (c : Option Link) → chain_by p f item (λ e u. chain_of k xs item e u) c ≡ parsed q all → length (plain f) ≤ length (plain all)
+    go on (Some l) h =
+        let j = then_item xs item k l.next l.connective f q all h in
+        let i = on j.end (join l.connective f j.tree) j.rest in
+        omega (arith, join_longer l.connective f j.tree)
+    go on None h = let s : f ≡ all = same_tree h in omega (arith, ap (λ (x : Tree). length (plain x)) s)
 
 -- ---- the loop
 
@@ -143,8 +144,8 @@ module _ (d : ℕ) (xs : List ℕ) (close p : ℕ) where
     pub chained_within : w.length ≤ length out
     chained_within = omega (arith, h.long, h.puts.long, h.room.room.fits, chain_longer h.left xs item w.end h.room.end h.tree h.room.tree whole)
 
-    module _ (c : FoundConnective) (e : c ≡ connective_at xs w.end) where
-      pub chained_ends : c ≡ FoundConnective.Nothing → Spelt plain (filter_at d xs close p) entry out w
+    module _ (c : Option Link) (e : c ≡ connective_at xs w.end) where
+      pub chained_ends : c ≡ None → Spelt plain (filter_at d xs close p) entry out w
       chained_ends z =
           record {
             tree = h.tree;
@@ -153,39 +154,39 @@ module _ (d : ℕ) (xs : List ℕ) (close p : ℕ) where
             join = h.join;
           }
 
-      module _ (q : ℕ) (a : Connective) (n : c ≡ FoundConnective.Next q a) where
-        next : Joins xs item (h.left - 1) q a h.tree h.room.end h.room.tree
+      module _ (l : Link) (n : c ≡ Some l) where
+        next : Joins xs item (h.left - 1) l.next l.connective h.tree h.room.end h.room.tree
         next =
-            then_item xs item (h.left - 1) q a h.tree h.room.end h.room.tree
+            then_item xs item (h.left - 1) l.next l.connective h.tree h.room.end h.room.tree
             (ap (chain_by w.end h.tree item (λ n u. chain_of (h.left - 1) xs item n u)) (sym n ∙ e) ∙ sym step ∙ whole)
 
-        fits : length (plain h.tree) + length (joined a next.tree) ≤ length entry
+        fits : length (plain h.tree) + length (joined l.connective next.tree) ≤ length entry
         fits =
             omega (
               arith,
-              join_longer a h.tree next.tree,
+              join_longer l.connective h.tree next.tree,
               h.room.room.fits,
-              chain_longer (h.left - 1) xs item next.end h.room.end (join a h.tree next.tree) h.room.tree next.rest,
+              chain_longer (h.left - 1) xs item next.end h.room.end (join l.connective h.tree next.tree) h.room.tree next.rest,
             )
 
-        wrote : Wrote (plain h.tree ++ joined a next.tree) (joined a next.tree) entry out w.length
+        wrote : Wrote (plain h.tree ++ joined l.connective next.tree) (joined l.connective next.tree) entry out w.length
         wrote = record { done = plain h.tree; whole = refl; puts = h.puts; long = h.long; within = omega (arith, fits, h.puts.long, h.long) }
 
-        pub chained_room : RoomFor (joined a) (item_at d xs close q) (lent out w.length)
-        chained_room = record { end = next.end; tree = next.tree; reads = next.reads; room = wrote_room wrote (joined a next.tree) [] (sym (append-nil (joined a next.tree))) }
+        pub chained_room : RoomFor (joined l.connective) (item_at d xs close l.next) (lent out w.length)
+        chained_room = record { end = next.end; tree = next.tree; reads = next.reads; room = wrote_room wrote (joined l.connective next.tree) [] (sym (append-nil (joined l.connective next.tree))) }
 
-        module _ {exit : List ℕ} {v : Written} (s : Spelt (joined a) (item_at d xs close q) (lent out w.length) exit v) where
+        module _ {exit : List ℕ} {v : Written} (s : Spelt (joined l.connective) (item_at d xs close l.next) (lent out w.length) exit v) where
           same : next.tree ≡ s.tree
           same = same_tree (sym next.reads ∙ s.reads)
 
-          wrote_more : Wrote (plain h.tree ++ joined a next.tree) [] entry (back out w.length exit) (w.length + v.length)
-          wrote_more = wrote_next wrote (joined a next.tree) [] (sym (append-nil (joined a next.tree))) (puts_same (ap (joined a) (sym same)) s.puts)
+          wrote_more : Wrote (plain h.tree ++ joined l.connective next.tree) [] entry (back out w.length exit) (w.length + v.length)
+          wrote_more = wrote_next wrote (joined l.connective next.tree) [] (sym (append-nil (joined l.connective next.tree))) (puts_same (ap (joined l.connective) (sym same)) s.puts)
 
           pub chained_fits : w.length + v.length ≤ length out
           chained_fits = omega (arith, wrote_more.within, wrote_more.long, h.long)
 
           pub chained_ahead : (w.end + 1 ≤ v.end) × (v.end ≤ length xs)
-          chained_ahead = let y = connective_ahead xs w.end q a c e n in let u = item-within d xs close q s in (omega arith, u.1)
+          chained_ahead = let y = connective_ahead xs w.end l c e n in let u = item-within d xs close l.next s in (omega arith, u.1)
 
           pub chained_next : Chained entry (back out w.length exit) (record { end = v.end; length = w.length + v.length; join = true })
           unfolding plain joined
@@ -193,12 +194,12 @@ module _ (d : ℕ) (xs : List ℕ) (close p : ℕ) where
               record {
                 room = h.room;
                 left = h.left - 1;
-                tree = join a h.tree s.tree;
-                reads = h.reads ∙ step ∙ ap (chain_by w.end h.tree item (λ n u. chain_of (h.left - 1) xs item n u)) (sym e ∙ n) ∙ ap (and_then (λ n u. chain_of (h.left - 1) xs item n u) (join a h.tree)) s.reads;
+                tree = join l.connective h.tree s.tree;
+                reads = h.reads ∙ step ∙ ap (chain_by w.end h.tree item (λ n u. chain_of (h.left - 1) xs item n u)) (sym e ∙ n) ∙ ap (and_then (λ n u. chain_of (h.left - 1) xs item n u) (join l.connective h.tree)) s.reads;
                 enough = omega (arith, h.enough, chained_ahead);
                 from = omega (arith, h.from, chained_ahead);
                 within = chained_ahead.1;
-                puts = puts_same (ap (λ (x : Tree). plain h.tree ++ joined a x) same) (wrote_end wrote_more refl);
+                puts = puts_same (ap (λ (x : Tree). plain h.tree ++ joined l.connective x) same) (wrote_end wrote_more refl);
                 long = wrote_more.long;
                 join = refl;
               }

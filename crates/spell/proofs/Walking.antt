@@ -5,6 +5,7 @@
 -- room; and what the callees put one behind another (base's `Wrote`) is the spelling of the clause's tree. Behind a connective a join is
 -- written first and brackets are then put around it (`operand_spelt`).
 -- Assumes nothing.
+use Rattle.std.specs.Prelude.{Option, Some, None}
 use Prim.Native.Nat.{ℕ, ◌+◌, ◌-◌, ◌≤◌, ◌<◌}
 use native.Mathlib.Omega.{arith}
 use mathlib.Core.Path.{◌≡◌, refl, sym, ap, subst, ◌∙◌}
@@ -22,9 +23,6 @@ use Rattle.syntax.specs.Grammar.{TestAt, a_test, round, square}
 use Rattle.syntax.specs.Scan.{is_space, skip_at, has, test_of, test_at, test_or, choice_or, choice_at, open_at, head_at, member_at, member_after, after_close, close_at}
 use Rattle.syntax.specs.declared.Connective.{Connective}
 use Rattle.syntax.specs.declared.RawTest.{RawTest}
-use Rattle.syntax.specs.declared.FoundTest.{FoundTest}
-use Rattle.syntax.specs.declared.FoundChoice.{FoundChoice}
-use Rattle.syntax.specs.declared.FoundClose.{FoundClose}
 use Rattle.syntax.specs.declared.Head.{Head}
 use Rattle.syntax.specs.Reader.{Parsed, parsed, unparsed, negated_if, in_bracket, in_choice, item_at, filter_at, bracket_at, chosen_at}
 use Rattle.syntax.proofs.Structure.{OpenDerived, open_derived}
@@ -63,24 +61,24 @@ record Closed (xs : List ℕ) (negated : Bool) (g : Parsed) (q : ℕ) (f : Tree)
   end : ℕ
   tree : Tree
   reads : g ≡ parsed end tree
-  closes : close_at xs round end ≡ FoundClose.At q
+  closes : close_at xs round end ≡ Some q
   is : f ≡ negated_if negated tree
 
 closed : (xs : List ℕ) (negated : Bool) (g : Parsed) (q : ℕ) (f : Tree) → in_bracket xs negated g ≡ parsed q f → Closed xs negated g q f
 closed xs negated unparsed q f e = never e
 closed xs negated (parsed m h) q f e = go (close_at xs round m) refl e
   where
-    go : (c : FoundClose) → close_at xs round m ≡ c → in_bracket xs negated (parsed m h) ≡ parsed q f → Closed xs negated (parsed m h) q f
-    go (FoundClose.At k) a b =
+    go : (c : Option ℕ) → close_at xs round m ≡ c → in_bracket xs negated (parsed m h) ≡ parsed q f → Closed xs negated (parsed m h) q f
+    go (Some k) a b =
         let s : parsed k (negated_if negated h) ≡ parsed q f = (rw a at b) in
-        record { end = m; tree = h; reads = refl; closes = a ∙ ap (λ (x : ℕ). FoundClose.At x) (same_end s); is = sym (same_tree s) }
-    go FoundClose.Nothing a b = never (rw a at b)
+        record { end = m; tree = h; reads = refl; closes = a ∙ ap (λ (x : ℕ). Some x) (same_end s); is = sym (same_tree s) }
+    go None a b = never (rw a at b)
 
-close_skips : (xs : List ℕ) (close p q : ℕ) → close_at xs close p ≡ FoundClose.At q → q ≡ skip_at xs p + 1
+close_skips : (xs : List ℕ) (close p q : ℕ) → close_at xs close p ≡ Some q → q ≡ skip_at xs p + 1
 unfolding close_at
-close_skips xs close p q e = go (cond-first (has xs (skip_at xs p) (close ∷ [])) (FoundClose.At (skip_at xs p + 1)) FoundClose.Nothing (λ z. let y : ◌≡◌ {A = ℕ} 0 1 = cc in omega arith) e).1
+close_skips xs close p q e = go (cond-first (has xs (skip_at xs p) (close ∷ [])) (Some (skip_at xs p + 1)) None (λ z. let y : ◌≡◌ {A = ℕ} 0 1 = cc in omega arith) e).1
   where
-    go : FoundClose.At (skip_at xs p + 1) ≡ FoundClose.At q → q ≡ skip_at xs p + 1
+    go : Some (skip_at xs p + 1) ≡ Some q → q ≡ skip_at xs p + 1
     go h = cc
 
 -- the bracket's closing byte stands after the spaces, where the tree that was written ends
@@ -234,9 +232,9 @@ module _ (a : Connective) {g : Parsed} {out : List ℕ} (r : RoomFor (joined a) 
 
 -- ---- a test that was found has one of the operators
 
-abbrev Known : FoundTest → Type 0
-Known (FoundTest.Test r) = r.operator < 19
-Known FoundTest.Nothing = Unit {0}
+abbrev Known : Option RawTest → Type 0
+Known (Some r) = r.operator < 19
+Known None = Unit {0}
 
 count_words : length operator_words ≡ 19
 unfolding operator_words
@@ -248,39 +246,39 @@ test_known xs close p = go (test_at xs close p) (test_derived xs close p)
     known : {q : ℕ} {t : Test} → TestAt xs close p q t → t.operator < 19
     known (a_test s h g o i w f) = omega (arith, o.one_of, count_words)
 
-    go : (f : FoundTest) → TestDerived xs close p f → Known f
-    go (FoundTest.Test r) h = known h
-    go FoundTest.Nothing h = tt
+    go : (f : Option RawTest) → TestDerived xs close p f → Known f
+    go (Some r) h = known h
+    go None h = tt
 
-pub member-operator : (xs : List ℕ) (close p : ℕ) (f : FoundTest) → f ≡ member_after xs close p → (t : RawTest) → f ≡ FoundTest.Test t → t.operator < 19
+pub member-operator : (xs : List ℕ) (close p : ℕ) (f : Option RawTest) → f ≡ member_after xs close p → (t : RawTest) → f ≡ Some t → t.operator < 19
 unfolding member_after member_at
 member-operator xs close p f e t h = subst Known (sym e ∙ h) (go (close_at xs square p))
   where
-    go : (c : FoundClose) → Known (after_close xs close c)
-    go (FoundClose.At m) = cond-elim Known (has xs m (ascii ".")) (λ k. test_known xs close (m + 1)) (λ k. tt)
-    go FoundClose.Nothing = tt
+    go : (c : Option ℕ) → Known (after_close xs close c)
+    go (Some m) = cond-elim Known (has xs m (ascii ".")) (λ k. test_known xs close (m + 1)) (λ k. tt)
+    go None = tt
 
-head_known : (xs : List ℕ) (close p : ℕ) (t : RawTest) → head_at xs close p ≡ Head.Test t → t.operator < 19
+head_known : (xs : List ℕ) (close p : ℕ) (t : RawTest) → head_at xs close p ≡ Some (Head.Test t) → t.operator < 19
 unfolding head_at
 head_known xs close p t e = go (test_at xs close p) (test_known xs close p) (choice_at xs p) (open_at xs p) (open_derived xs p) e
   where
-    go : (f : FoundTest) → Known f → (c : FoundChoice) (o : Head) → OpenDerived xs p o → test_or f (choice_or c o) ≡ Head.Test t → t.operator < 19
-    go (FoundTest.Test r) k c o d h = let s : r ≡ t = cc in subst (λ (x : RawTest). x.operator < 19) s k
-    go FoundTest.Nothing k (FoundChoice.At u) o d h = absurd (let z : ◌≡◌ {A = ℕ} 0 1 = cc in omega arith)
-    go FoundTest.Nothing k FoundChoice.Nothing o d h = absurd (subst (OpenDerived xs p) h d)
+    go : (f : Option RawTest) → Known f → (c : Option ℕ) (o : Option Head) → OpenDerived xs p o → test_or f (choice_or c o) ≡ Some (Head.Test t) → t.operator < 19
+    go (Some r) k c o d h = let s : r ≡ t = cc in subst (λ (x : RawTest). x.operator < 19) s k
+    go None k (Some u) o d h = absurd (let z : ◌≡◌ {A = ℕ} 0 1 = cc in omega arith)
+    go None k None o d h = absurd (subst (OpenDerived xs p) h d)
 
 -- ---- an item, by what it begins with
 
-module _ (d : ℕ) (xs : List ℕ) (close p : ℕ) (out : List ℕ) (r : RoomFor plain (item_at d xs close p) out) (h : Head) (e : h ≡ head_at xs close p) where
-  pub item_nothing : {X : Type 0} → h ≡ Head.Nothing → X
+module _ (d : ℕ) (xs : List ℕ) (close p : ℕ) (out : List ℕ) (r : RoomFor plain (item_at d xs close p) out) (h : Option Head) (e : h ≡ head_at xs close p) where
+  pub item_nothing : {X : Type 0} → h ≡ None → X
   item_nothing i = never (sym (nothing_step xs close p d (sym e ∙ i)) ∙ r.reads)
 
-  module _ (t : RawTest) (i : h ≡ Head.Test t) where
+  module _ (g : Head) (o : h ≡ Some g) (t : RawTest) (i : g ≡ Head.Test t) where
     found : parsed t.value.next (test (test_of xs t)) ≡ parsed r.end r.tree
-    found = sym (test_step xs close p d (sym e ∙ i)) ∙ r.reads
+    found = sym (test_step xs close p d (sym e ∙ o ∙ ap Some i)) ∙ r.reads
 
     pub item-operator : t.operator < 19
-    item-operator = head_known xs close p t (sym e ∙ i)
+    item-operator = head_known xs close p t (sym e ∙ o ∙ ap Some i)
 
     pub item_test_room : Room (test_text xs t) out
     unfolding test_text plain
@@ -288,15 +286,15 @@ module _ (d : ℕ) (xs : List ℕ) (close p : ℕ) (out : List ℕ) (r : RoomFor
 
     pub item_test_spelt : {exit : List ℕ} {n : ℕ} → Puts (test_text xs t) out exit n → Spelt plain (item_at d xs close p) out exit (record { end = t.value.next; length = n; join = false })
     unfolding test_text plain
-    item_test_spelt q = record { tree = test (test_of xs t); reads = test_step xs close p d (sym e ∙ i); puts = q; join = refl }
+    item_test_spelt q = record { tree = test (test_of xs t); reads = test_step xs close p d (sym e ∙ o ∙ ap Some i); puts = q; join = refl }
 
-  module _ (q : ℕ) (b : Bool) (i : h ≡ Head.Open q b) where
+  module _ (g : Head) (o : h ≡ Some g) (q : ℕ) (b : Bool) (i : g ≡ Head.Open q b) where
     pub item_open_deep : d ≡ 0 → ⊥
-    item_open_deep z = never (sym (deep_step xs close p d (sym e ∙ i) z) ∙ r.reads)
+    item_open_deep z = never (sym (deep_step xs close p d (sym e ∙ o ∙ ap Some i) z) ∙ r.reads)
 
     module _ (c : Bool) (k : b ≡ c) where
       opened_as : item_at d xs close p ≡ bracket_at (d - 1) xs c q
-      opened_as = opened-step xs close p d (sym e ∙ i) item_open_deep ∙ ap (λ (x : Bool). bracket_at (d - 1) xs x q) k
+      opened_as = opened-step xs close p d (sym e ∙ o ∙ ap Some i) item_open_deep ∙ ap (λ (x : Bool). bracket_at (d - 1) xs x q) k
 
       pub item_open_room : RoomFor plain (bracket_at (d - 1) xs c q) out
       item_open_room = record { end = r.end; tree = r.tree; reads = sym opened_as ∙ r.reads; room = r.room }
@@ -304,12 +302,12 @@ module _ (d : ℕ) (xs : List ℕ) (close p : ℕ) (out : List ℕ) (r : RoomFor
       pub item_open_spelt : {exit : List ℕ} {w : Written} → Spelt plain (bracket_at (d - 1) xs c q) out exit w → Spelt plain (item_at d xs close p) out exit w
       item_open_spelt s = record { tree = s.tree; reads = opened_as ∙ s.reads; puts = s.puts; join = s.join }
 
-  module _ (u : ℕ) (i : h ≡ Head.Choice u) where
+  module _ (g : Head) (o : h ≡ Some g) (u : ℕ) (i : g ≡ Head.Choice u) where
     pub item_choice_deep : d ≡ 0 → ⊥
-    item_choice_deep z = never (sym (deep_choice_step xs close p d (sym e ∙ i) z) ∙ r.reads)
+    item_choice_deep z = never (sym (deep_choice_step xs close p d (sym e ∙ o ∙ ap Some i) z) ∙ r.reads)
 
     chosen_is : item_at d xs close p ≡ chosen_at (d - 1) xs close p u
-    chosen_is = chosen-step xs close p d (sym e ∙ i) item_choice_deep
+    chosen_is = chosen-step xs close p d (sym e ∙ o ∙ ap Some i) item_choice_deep
 
     pub item_choice_room : RoomFor plain (chosen_at (d - 1) xs close p u) out
     item_choice_room = record { end = r.end; tree = r.tree; reads = sym chosen_is ∙ r.reads; room = r.room }
@@ -324,7 +322,7 @@ record Chosen (xs : List ℕ) (close p : ℕ) (n : List ℕ) (g : Parsed) (q : �
   tree : Tree
   reads : g ≡ parsed end tree
   test : RawTest
-  member : member_after xs close end ≡ FoundTest.Test test
+  member : member_after xs close end ≡ Some test
   ends : q ≡ test.value.next
   is : f ≡ bracketed p n tree (test_of xs test)
 
@@ -332,11 +330,11 @@ chosen : (xs : List ℕ) (close p : ℕ) (n : List ℕ) (g : Parsed) (q : ℕ) (
 chosen xs close p n unparsed q f e = never e
 chosen xs close p n (parsed m h) q f e = go (member_after xs close m) refl e
   where
-    go : (t : FoundTest) → member_after xs close m ≡ t → in_choice xs close p n (parsed m h) ≡ parsed q f → Chosen xs close p n (parsed m h) q f
-    go (FoundTest.Test t) a b =
+    go : (t : Option RawTest) → member_after xs close m ≡ t → in_choice xs close p n (parsed m h) ≡ parsed q f → Chosen xs close p n (parsed m h) q f
+    go (Some t) a b =
         let s : parsed t.value.next (bracketed p n h (test_of xs t)) ≡ parsed q f = (rw a at b) in
         record { end = m; tree = h; reads = refl; test = t; member = a; ends = sym (same_end s); is = sym (same_tree s) }
-    go FoundTest.Nothing a b = never (rw a at b)
+    go None a b = never (rw a at b)
 
 -- the text of such a test: what stands before the filter, the filter, what stands after it
 chosen_text : (xs : List ℕ) (p : ℕ) (n : List ℕ) (f : Tree) (t : RawTest) → plain (bracketed p n f (test_of xs t)) ≡ choice_text n ++ (plain f ++ member_text xs t)
@@ -387,14 +385,14 @@ module _ (d : ℕ) (xs : List ℕ) (close p u : ℕ) (out : List ℕ) (r : RoomF
         pub chosen-inner-within : n + w.length ≤ length (back out₁ n exit)
         chosen-inner-within = omega (arith, (second_wrote (choice_text bundle) (plain choice.tree) (member_text xs choice.test) out chosen_parts a inner_puts).within)
 
-        module _ (f : FoundTest) (m : f ≡ member_after xs close w.end) where
-          member_is : f ≡ FoundTest.Test choice.test
+        module _ (f : Option RawTest) (m : f ≡ member_after xs close w.end) where
+          member_is : f ≡ Some choice.test
           member_is = m ∙ ap (λ (x : ℕ). member_after xs close x) (same_end both) ∙ choice.member
 
-          pub chosen_nothing : {X : Type 0} → f ≡ FoundTest.Nothing → X
+          pub chosen_nothing : {X : Type 0} → f ≡ None → X
           chosen_nothing z = absurd (let y = member_is in let x : ◌≡◌ {A = ℕ} 0 1 = cc in omega arith)
 
-          module _ (t : RawTest) (g : f ≡ FoundTest.Test t) where
+          module _ (t : RawTest) (g : f ≡ Some t) where
             same_test : choice.test ≡ t
             same_test = let y = member_is in cc
 

@@ -11,9 +11,7 @@ use crate::{Spot, Written};
 use base::write_word;
 use plain::{bracket_join, write_test};
 use syntax::scan::skip;
-use syntax::{
-    Connective, FoundConnective, FoundTest, Head, RawTest, read_connective, read_head, read_member,
-};
+use syntax::{Connective, Head, RawTest, read_connective, read_head, read_member};
 
 // Writes a connective with a space on either side, and answers its length.
 fn write_connective(connective: Connective, out: &mut [u8]) -> usize
@@ -124,7 +122,7 @@ fn write_chosen(filter: &[u8], spot: Spot, until: usize, out: &mut [u8]) -> Writ
     let end = start + inner.length;
     let member = read_member(filter, close, inner.end);
     match member {
-        FoundTest::Test(test) => {
+        Some(test) => {
             let last = write_member(filter, test, &mut out[end..]);
             let value = test.value;
             Written {
@@ -133,7 +131,7 @@ fn write_chosen(filter: &[u8], spot: Spot, until: usize, out: &mut [u8]) -> Writ
                 join: false,
             }
         }
-        FoundTest::Nothing => inner,
+        None => inner,
     }
 }
 
@@ -149,7 +147,13 @@ fn write_item(filter: &[u8], spot: Spot, out: &mut [u8]) -> Written
     let at = spot.at;
     let levels = spot.levels;
     let close = spot.close;
-    let head = read_head(filter, close, at);
+    let Some(head) = read_head(filter, close, at) else {
+        return Written {
+            end: at,
+            length: 0,
+            join: false,
+        };
+    };
     match head {
         Head::Test(test) => {
             let length = write_test(filter, test, out);
@@ -176,11 +180,6 @@ fn write_item(filter: &[u8], spot: Spot, out: &mut [u8]) -> Written
             until,
             out,
         ),
-        Head::Nothing => Written {
-            end: at,
-            length: 0,
-            join: false,
-        },
     }
 }
 
@@ -229,31 +228,23 @@ pub fn write_filter(filter: &[u8], spot: Spot, out: &mut [u8]) -> Written
     let levels = spot.levels;
     let close = spot.close;
     let mut written = write_item(filter, Spot { at, levels, close }, out);
-    loop {
-        let end = written.end;
+    while let Some(link) = read_connective(filter, written.end) {
         let length = written.length;
-        let found = read_connective(filter, end);
-        match found {
-            FoundConnective::Next(next, connective) => {
-                let more = write_joined(
-                    filter,
-                    connective,
-                    Spot {
-                        at: next,
-                        levels,
-                        close,
-                    },
-                    &mut out[length..],
-                );
-                written = Written {
-                    end: more.end,
-                    length: length + more.length,
-                    join: true,
-                };
-            }
-            FoundConnective::Nothing => {
-                return written;
-            }
-        }
+        let more = write_joined(
+            filter,
+            link.connective,
+            Spot {
+                at: link.next,
+                levels,
+                close,
+            },
+            &mut out[length..],
+        );
+        written = Written {
+            end: more.end,
+            length: length + more.length,
+            join: true,
+        };
     }
+    written
 }

@@ -4,6 +4,7 @@
 -- there because no connective is found before a closing byte or the end of the text (file Structure). The fuel is enough since every item
 -- takes a byte at least (`item_rise`). The reader is a function, so a text spells one tree at most, as file Spelling concludes.
 -- Assumes nothing.
+use Rattle.std.specs.Prelude.{Some, None}
 use Prim.Native.Nat.{ℕ, zero, suc, ◌+◌, ◌-◌, ◌≤◌}
 use Prim.Native.Char.{code}
 use Rattle.base.specs.Ascii.{ascii}
@@ -16,7 +17,6 @@ use mathlib.Core.List.{List, []}
 use lib.Dec.{eqb}
 use lib.ListN.{length}
 use Rattle.base.specs.Parts.{part}
-use Rattle.syntax.specs.declared.FoundTest.{FoundTest}
 use borrow.Author.Tests.{eq-eqb, le-leb}
 use Rattle.syntax.specs.Strings.{is_bare}
 use Rattle.syntax.specs.Tree.{Test, Tree, test, tests_of}
@@ -72,56 +72,56 @@ square-closing : Closing square
 unfolding is_bare
 square-closing = record { not_bare = refl; not_space = refl; not_and = refl; not_or = refl }
 
-found_head : {xs : List ℕ} {close p q : ℕ} {t : Test} (f : TestFound xs close p q t) → head_at xs close p ≡ Head.Test f.raw
+found_head : {xs : List ℕ} {close p q : ℕ} {t : Test} (f : TestFound xs close p q t) → head_at xs close p ≡ Some (Head.Test f.raw)
 unfolding head_at
 found_head f = rw f.found
 
-opened_head : {xs : List ℕ} {p q : ℕ} {b : Bool} (close : ℕ) → Opens xs p q b → NoSpaceAt xs q → head_at xs close p ≡ Head.Open q b
+opened_head : {xs : List ℕ} {p q : ℕ} {b : Bool} (close : ℕ) → Opens xs p q b → NoSpaceAt xs q → head_at xs close p ≡ Some (Head.Open q b)
 unfolding head_at
 opened_head close h n = rw (open_no_test h close, open_no_choice h, open_found h n)
 
-chosen_head : {xs : List ℕ} {close p q : ℕ} {n : List ℕ} → ChoiceFound xs close p q n → head_at xs close p ≡ Head.Choice (p + length n)
+chosen_head : {xs : List ℕ} {close p q : ℕ} {n : List ℕ} → ChoiceFound xs close p q n → head_at xs close p ≡ Some (Head.Choice (p + length n))
 unfolding head_at
 chosen_head f = rw (f.no_test, f.found)
 
-found-member : (xs : List ℕ) (close b p q : ℕ) (t : Test) → Closes xs square b p → Stands xs p (ascii ".") → (f : TestFound xs close (p + 1) q t) → member_after xs close b ≡ FoundTest.Test f.raw
+found-member : (xs : List ℕ) (close b p q : ℕ) (t : Test) → Closes xs square b p → Stands xs p (ascii ".") → (f : TestFound xs close (p + 1) q t) → member_after xs close b ≡ Some f.raw
 unfolding member_after member_at
 found-member xs close b p q t c s f = rw (close_found c refl, stands_has xs p (ascii ".") s, f.found)
 
 module _ (xs : List ℕ) (close p : ℕ) where
-  pub test_step : (d : ℕ) {r : RawTest} → head_at xs close p ≡ Head.Test r → item_at d xs close p ≡ parsed r.value.next (test (test_of xs r))
+  pub test_step : (d : ℕ) {r : RawTest} → head_at xs close p ≡ Some (Head.Test r) → item_at d xs close p ≡ parsed r.value.next (test (test_of xs r))
   unfolding item_at
   test_step zero e = rw e
   test_step (suc d) e = rw e
 
-  pub open_step : (d : ℕ) {q : ℕ} {b : Bool} → head_at xs close p ≡ Head.Open q b → item_at (suc d) xs close p ≡ in_bracket xs b (filter_at d xs round q)
+  pub open_step : (d : ℕ) {q : ℕ} {b : Bool} → head_at xs close p ≡ Some (Head.Open q b) → item_at (suc d) xs close p ≡ in_bracket xs b (filter_at d xs round q)
   unfolding item_at filter_at
   open_step d e = rw e
 
-  pub choice_step : (d : ℕ) {e : ℕ} → head_at xs close p ≡ Head.Choice e → item_at (suc d) xs close p ≡ in_choice xs close p (part xs p e) (filter_at d xs square (skip_at xs (e + 1)))
+  pub choice_step : (d : ℕ) {e : ℕ} → head_at xs close p ≡ Some (Head.Choice e) → item_at (suc d) xs close p ≡ in_choice xs close p (part xs p e) (filter_at d xs square (skip_at xs (e + 1)))
   unfolding item_at filter_at
   choice_step d e = rw e
 
   -- as the code goes: one bracket fewer left, none left, nothing there
-  pub opened-step : (d : ℕ) {q : ℕ} {b : Bool} → head_at xs close p ≡ Head.Open q b → (d ≡ 0 → ⊥) → item_at d xs close p ≡ bracket_at (d - 1) xs b q
+  pub opened-step : (d : ℕ) {q : ℕ} {b : Bool} → head_at xs close p ≡ Some (Head.Open q b) → (d ≡ 0 → ⊥) → item_at d xs close p ≡ bracket_at (d - 1) xs b q
   unfolding bracket_at
   opened-step zero e n = absurd (n refl)
   opened-step (suc d) e n = rw (sub-one (suc d)) (open_step d e)
 
-  pub deep_step : (d : ℕ) {q : ℕ} {b : Bool} → head_at xs close p ≡ Head.Open q b → d ≡ 0 → item_at d xs close p ≡ unparsed
+  pub deep_step : (d : ℕ) {q : ℕ} {b : Bool} → head_at xs close p ≡ Some (Head.Open q b) → d ≡ 0 → item_at d xs close p ≡ unparsed
   unfolding item_at
   deep_step d e z = rw (z, e)
 
-  pub chosen-step : (d : ℕ) {e : ℕ} → head_at xs close p ≡ Head.Choice e → (d ≡ 0 → ⊥) → item_at d xs close p ≡ chosen_at (d - 1) xs close p e
+  pub chosen-step : (d : ℕ) {e : ℕ} → head_at xs close p ≡ Some (Head.Choice e) → (d ≡ 0 → ⊥) → item_at d xs close p ≡ chosen_at (d - 1) xs close p e
   unfolding chosen_at
   chosen-step zero e n = absurd (n refl)
   chosen-step (suc d) e n = rw (sub-one (suc d)) (choice_step d e)
 
-  pub deep_choice_step : (d : ℕ) {e : ℕ} → head_at xs close p ≡ Head.Choice e → d ≡ 0 → item_at d xs close p ≡ unparsed
+  pub deep_choice_step : (d : ℕ) {e : ℕ} → head_at xs close p ≡ Some (Head.Choice e) → d ≡ 0 → item_at d xs close p ≡ unparsed
   unfolding item_at
   deep_choice_step d e z = rw (z, e)
 
-  pub nothing_step : (d : ℕ) → head_at xs close p ≡ Head.Nothing → item_at d xs close p ≡ unparsed
+  pub nothing_step : (d : ℕ) → head_at xs close p ≡ None → item_at d xs close p ≡ unparsed
   unfolding item_at
   nothing_step zero e = rw e
   nothing_step (suc d) e = rw e

@@ -1,5 +1,6 @@
 -- The loop of `decode`: what was written and what is left to decode make the whole value.
 -- Assumes nothing.
+use Rattle.std.specs.Prelude.{Option, Some, None}
 use Prim.Native.Nat.{ℕ, suc, ◌+◌, ◌≤◌, ◌<◌}
 use native.Mathlib.Numerals.{add-one}
 use native.Mathlib.Omega.{arith}
@@ -13,43 +14,42 @@ use Rattle.base.proofs.Lists.{cons_same}
 use borrow.Author.Tests.{eq-eqb, ne_eqb}
 use Rattle.syntax.specs.Strings.{backslash, unescaped}
 use Rattle.syntax.specs.Scan.{piece_of, decode, Decoded}
-use Rattle.syntax.specs.declared.Piece.{Piece}
 
 -- ---- a byte's piece
 
-pub piece_escaped : (pending : Bool) (b u : ℕ) → pending ≡ true → u ≡ unescaped b → Piece.Byte u ≡ piece_of pending b
+pub piece_escaped : (pending : Bool) (b u : ℕ) → pending ≡ true → u ≡ unescaped b → Some u ≡ piece_of pending b
 unfolding piece_of
 piece_escaped pending b u p e = rw (p, e)
 
-pub piece_backslash : (pending : Bool) (b : ℕ) → pending ≡ false → b ≡ backslash → Piece.Backslash ≡ piece_of pending b
+pub piece_backslash : (pending : Bool) (b : ℕ) → pending ≡ false → b ≡ backslash → None ≡ piece_of pending b
 unfolding piece_of
 piece_backslash pending b p e = rw (p, eq-eqb b backslash e)
 
-pub piece_plain : (pending : Bool) (b : ℕ) → pending ≡ false → (b ≡ backslash → ⊥) → Piece.Byte b ≡ piece_of pending b
+pub piece_plain : (pending : Bool) (b : ℕ) → pending ≡ false → (b ≡ backslash → ⊥) → Some b ≡ piece_of pending b
 unfolding piece_of
 piece_plain pending b p e = rw (p, ne_eqb b backslash e)
 
-never_byte : {X : Type 0} {b : ℕ} → Piece.Byte b ≡ Piece.Backslash → X
+never_byte : {X : Type 0} {b : ℕ} → Some b ≡ None → X
 never_byte h = let z : ◌≡◌ {A = ℕ} 0 1 = cc in absurd (omega arith)
 
-byte-same : {b c : ℕ} → Piece.Byte b ≡ Piece.Byte c → b ≡ c
+byte-same : {b c : ℕ} → Some b ≡ Some c → b ≡ c
 byte-same h = cc
 
-decode-byte : (pending : Bool) (x b : ℕ) (xs : List ℕ) → piece_of pending x ≡ Piece.Byte b → decode pending (x ∷ xs) ≡ b ∷ decode false xs
+decode-byte : (pending : Bool) (x b : ℕ) (xs : List ℕ) → piece_of pending x ≡ Some b → decode pending (x ∷ xs) ≡ b ∷ decode false xs
 unfolding piece_of decode
 decode-byte true x b xs h = cons_same (byte-same h) refl
 decode-byte false x b xs h = go (eqb x backslash) h
   where
-    go : (t : Bool) → cond t Piece.Backslash (Piece.Byte x) ≡ Piece.Byte b → cond t (decode true xs) (x ∷ decode false xs) ≡ b ∷ decode false xs
+    go : (t : Bool) → cond t None (Some x) ≡ Some b → cond t (decode true xs) (x ∷ decode false xs) ≡ b ∷ decode false xs
     go true h = never_byte (sym h)
     go false h = cons_same (byte-same h) refl
 
-decode-backslash : (pending : Bool) (x : ℕ) (xs : List ℕ) → piece_of pending x ≡ Piece.Backslash → decode pending (x ∷ xs) ≡ decode true xs
+decode-backslash : (pending : Bool) (x : ℕ) (xs : List ℕ) → piece_of pending x ≡ None → decode pending (x ∷ xs) ≡ decode true xs
 unfolding piece_of decode
 decode-backslash true x xs h = never_byte h
 decode-backslash false x xs h = go (eqb x backslash) h
   where
-    go : (t : Bool) → cond t Piece.Backslash (Piece.Byte x) ≡ Piece.Backslash → cond t (decode true xs) (x ∷ decode false xs) ≡ decode true xs
+    go : (t : Bool) → cond t None (Some x) ≡ None → cond t (decode true xs) (x ∷ decode false xs) ≡ decode true xs
     go true h = refl
     go false h = never_byte h
 
@@ -65,7 +65,7 @@ pub decoding_starts : (raw out : List ℕ) → length raw ≤ length out → Dec
 decoding_starts raw out h = record { within = omega arith; written = omega arith; room = h; whole = refl }
 
 module _ (raw out : List ℕ) (i n : ℕ) (pending : Bool) (d : Decoding raw out i n pending) where
-  pub decoding_byte : (p : Piece) (b : ℕ) → p ≡ piece_of pending (get_or raw i 0) → p ≡ Piece.Byte b → i < length raw → Decoding raw (set out n b) (i + 1) (n + 1) false
+  pub decoding_byte : (p : Option ℕ) (b : ℕ) → p ≡ piece_of pending (get_or raw i 0) → p ≡ Some b → i < length raw → Decoding raw (set out n b) (i + 1) (n + 1) false
   decoding_byte p b e h k =
       let room : n < length out = omega (arith, d.written, d.room) in
       let next : decode pending (drop i raw) ≡ b ∷ decode false (drop (suc i) raw) = rw (drop-cons raw i 0 k) (decode-byte pending (get_or raw i 0) b (drop (suc i) raw) (sym e ∙ h)) in
@@ -76,7 +76,7 @@ module _ (raw out : List ℕ) (i n : ℕ) (pending : Bool) (d : Decoding raw out
         whole = rw (add-one n, add-one i, take-suc-set out n b room, append_assoc, ← next) d.whole;
       }
 
-  pub decoding_backslash : (p : Piece) → p ≡ piece_of pending (get_or raw i 0) → p ≡ Piece.Backslash → i < length raw → Decoding raw out (i + 1) n true
+  pub decoding_backslash : (p : Option ℕ) → p ≡ piece_of pending (get_or raw i 0) → p ≡ None → i < length raw → Decoding raw out (i + 1) n true
   decoding_backslash p e h k =
       let next : decode pending (drop i raw) ≡ decode true (drop (suc i) raw) = rw (drop-cons raw i 0 k) (decode-backslash pending (get_or raw i 0) (drop (suc i) raw) (sym e ∙ h)) in
       record {

@@ -5,6 +5,7 @@
 -- (`operator-found`). The code's loop keeps that the words from the k-th on decide (`Trying`), and compares two letters as one number
 -- (`letters_same`).
 -- Assumes nothing.
+use Rattle.std.specs.Prelude.{Option, Some, None}
 use Prim.Native.Nat.{ℕ, suc, ◌+◌, ◌*◌, ◌-◌, ◌≤◌, ◌<◌}
 use native.Mathlib.Omega.{arith}
 use native.Mathlib.Numerals.{add-one}
@@ -21,20 +22,19 @@ use Rattle.base.proofs.Lists.{equal-same}
 use Rattle.base.specs.Operators.{operator_words}
 use Rattle.syntax.specs.Grammar.{Stands, Operator}
 use Rattle.syntax.specs.Scan.{find_operator, operator_at}
-use Rattle.syntax.specs.declared.FoundOperator.{FoundOperator}
 use Rattle.syntax.proofs.Words.{NoSpaceAt, stands_no_space, taken_stands}
 
-never_operator : {X : Type 0} {k : ℕ} → FoundOperator.Nothing ≡ FoundOperator.Is k → X
+never_operator : {X : Type 0} {k : ℕ} → None ≡ Some k → X
 never_operator h = let z : ◌≡◌ {A = ℕ} 0 1 = cc in absurd (omega arith)
 
 -- the word found is the i-th of those from the j-th on
-find_derives : (j : ℕ) (us : List (List ℕ)) (w : List ℕ) (k : ℕ) → find_operator j us w ≡ FoundOperator.Is k → (i : ℕ) × (k ≡ j + i) × (i < length us) × (get_or us i [] ≡ w)
+find_derives : (j : ℕ) (us : List (List ℕ)) (w : List ℕ) (k : ℕ) → find_operator j us w ≡ Some k → (i : ℕ) × (k ≡ j + i) × (i < length us) × (get_or us i [] ≡ w)
 unfolding find_operator
 find_derives j [] w k h = never_operator h
 find_derives j (u ∷ us) w k h = go (equal w u) refl h (λ e. find_derives (suc j) us w k e)
   where
-    go : (b : Bool) → equal w u ≡ b → cond b (FoundOperator.Is j) (find_operator (suc j) us w) ≡ FoundOperator.Is k
-        → (find_operator (suc j) us w ≡ FoundOperator.Is k → (i : ℕ) × (k ≡ suc j + i) × (i < length us) × (get_or us i [] ≡ w))
+    go : (b : Bool) → equal w u ≡ b → cond b (Some j) (find_operator (suc j) us w) ≡ Some k
+        → (find_operator (suc j) us w ≡ Some k → (i : ℕ) × (k ≡ suc j + i) × (i < length us) × (get_or us i [] ≡ w))
         → (i : ℕ) × (k ≡ j + i) × (i < length (u ∷ us)) × (get_or (u ∷ us) i [] ≡ w)
     go true e h next = let z : j ≡ k = cc in (0, omega arith, omega arith, sym (equal-same w u e))
     go false e h next = let r = next h in (suc r.0, omega (arith, r.1), omega (arith, r.2), r.3)
@@ -43,7 +43,7 @@ two_letters : (k : ℕ) → k < length operator_words → length (get_or operato
 unfolding operator_words
 two_letters k h = passes_same (λ (i : ℕ). length (get_or operator_words i [])) (λ (i : ℕ). 2) 19 refl k h
 
-pub operator_derives : (xs : List ℕ) (p k : ℕ) → operator_at xs p ≡ FoundOperator.Is k → Operator xs p k
+pub operator_derives : (xs : List ℕ) (p k : ℕ) → operator_at xs p ≡ Some k → Operator xs p k
 unfolding operator_at
 operator_derives xs p k h =
     let r = find_derives 0 operator_words (take 2 (drop p xs)) k h in
@@ -53,21 +53,21 @@ operator_derives xs p k h =
       stands = subst (λ (w : List ℕ). Stands xs p w) (sym r.3 ∙ ap (λ (i : ℕ). get_or operator_words i []) (sym e)) (taken_stands xs p 2);
     }
 
-is_operator : ℕ → FoundOperator → Bool
-is_operator k (FoundOperator.Is j) = eqb j k
-is_operator k FoundOperator.Nothing = false
+is_operator : ℕ → Option ℕ → Bool
+is_operator k (Some j) = eqb j k
+is_operator k None = false
 
-is_operator_lem : (k : ℕ) (f : FoundOperator) → is_operator k f ≡ true → f ≡ FoundOperator.Is k
+is_operator_lem : (k : ℕ) (f : Option ℕ) → is_operator k f ≡ true → f ≡ Some k
 unfolding is_operator
-is_operator_lem k (FoundOperator.Is j) h = ap FoundOperator.Is (eqb-true j k h)
-is_operator_lem k FoundOperator.Nothing h = absurd (false≢true h)
+is_operator_lem k (Some j) h = ap Some (eqb-true j k h)
+is_operator_lem k None h = absurd (false≢true h)
 
 -- no word stands twice in the list
-each_found : (k : ℕ) → k < length operator_words → find_operator 0 operator_words (get_or operator_words k []) ≡ FoundOperator.Is k
+each_found : (k : ℕ) → k < length operator_words → find_operator 0 operator_words (get_or operator_words k []) ≡ Some k
 unfolding operator_words find_operator equal is_operator
 each_found k h = is_operator_lem k _ (passes_at (λ (i : ℕ). is_operator i (find_operator 0 operator_words (get_or operator_words i []))) 19 refl k h)
 
-pub operator-found : {xs : List ℕ} {p k : ℕ} → Operator xs p k → operator_at xs p ≡ FoundOperator.Is k
+pub operator-found : {xs : List ℕ} {p k : ℕ} → Operator xs p k → operator_at xs p ≡ Some k
 unfolding operator_at
 operator-found {xs} {p} {k} o =
     let w = get_or operator_words k [] in
@@ -112,7 +112,7 @@ many_words : length operator_words ≡ 19
 unfolding operator_words
 many_words = refl
 
-try_step : (k : ℕ) (w : List ℕ) → k < 19 → find_operator k (drop k operator_words) w ≡ cond (equal w (get_or operator_words k [])) (FoundOperator.Is k) (find_operator (k + 1) (drop (k + 1) operator_words) w)
+try_step : (k : ℕ) (w : List ℕ) → k < 19 → find_operator k (drop k operator_words) w ≡ cond (equal w (get_or operator_words k [])) (Some k) (find_operator (k + 1) (drop (k + 1) operator_words) w)
 unfolding find_operator
 try_step k w h = rw (drop-cons operator_words k [] (rw many_words h), add-one k)
 
@@ -148,15 +148,15 @@ two_bytes_lem xs p h =
     rw (drop-cons xs p 0 a, drop-cons xs (suc p) 0 b, add-one p)
 
 module _ (xs : List ℕ) (p : ℕ) where
-  pub operator_short : length xs - p < 2 → FoundOperator.Nothing ≡ operator_at xs p
+  pub operator_short : length xs - p < 2 → None ≡ operator_at xs p
   operator_short h = go (operator_at xs p) refl
     where
-      go : (f : FoundOperator) → operator_at xs p ≡ f → FoundOperator.Nothing ≡ f
-      go (FoundOperator.Is k) e = absurd (short (operator_rise (operator_derives xs p k e)))
+      go : (f : Option ℕ) → operator_at xs p ≡ f → None ≡ f
+      go (Some k) e = absurd (short (operator_rise (operator_derives xs p k e)))
         where
           short : p + 2 ≤ length xs → ⊥
           short i = omega arith
-      go FoundOperator.Nothing e = refl
+      go None e = refl
 
   module _ (h : 2 ≤ length xs - p) (words : List ℕ) (k : ℕ) (t : Trying words (get_or xs p 0) (get_or xs (p + 1) 0) k) where
     abbrev word : List ℕ
@@ -166,14 +166,14 @@ module _ (xs : List ℕ) (p : ℕ) where
       tried : equal word (get_or operator_words k []) ≡ r
       tried = letters_decide words t.letters k g (get_or xs p 0) (get_or xs (p + 1) 0) ∙ sym e
 
-      pub trying_found : r ≡ true → FoundOperator.Is k ≡ operator_at xs p
+      pub trying_found : r ≡ true → Some k ≡ operator_at xs p
       unfolding operator_at
       trying_found f = rw (two_bytes_lem xs p h, t.left, try_step k word g, tried ∙ f)
 
       pub trying_next : r ≡ false → Trying words (get_or xs p 0) (get_or xs (p + 1) 0) (k + 1)
       trying_next f = record { letters = t.letters; few = omega arith; left = t.left ∙ rw (try_step k word g, tried ∙ f) }
 
-    pub trying_ends : 19 ≤ k → FoundOperator.Nothing ≡ operator_at xs p
+    pub trying_ends : 19 ≤ k → None ≡ operator_at xs p
     unfolding operator_at find_operator
     trying_ends g =
         let n : length operator_words ≤ k = rw many_words g in

@@ -4,6 +4,7 @@
 -- with no space, so skipping spaces stops there, and what follows a value is no part of a bare word (`value_found` of file Values). Where a
 -- test is found, each scan has given its part of the derivation (`test_derived`). Then a law for each way through the code.
 -- Assumes nothing.
+use Rattle.std.specs.Prelude.{Option, Some, None}
 use Prim.Native.Nat.{ℕ, ◌+◌, ◌-◌, ◌≤◌, ◌<◌}
 use native.Mathlib.Omega.{arith}
 use mathlib.Core.Path.{◌≡◌, refl, sym, ap, subst, ◌∙◌}
@@ -30,10 +31,7 @@ use Rattle.syntax.specs.Tree.{Test}
 use Rattle.syntax.specs.Grammar.{Stands, Gap, gap, Follows, the_end, a_space, a_close, Operator, TestAt, a_test}
 use Rattle.syntax.specs.Scan.{is_space, skip_at, value_at, follows, operator_at, with_operator, with_value, test_value, test_operator, name_end, test_at, test_of}
 use Rattle.syntax.specs.declared.RawValue.{RawValue}
-use Rattle.syntax.specs.declared.FoundValue.{FoundValue}
-use Rattle.syntax.specs.declared.FoundOperator.{FoundOperator}
 use Rattle.syntax.specs.declared.RawTest.{RawTest}
-use Rattle.syntax.specs.declared.FoundTest.{FoundTest}
 use Rattle.syntax.proofs.Words.{NoSpaceAt, stands_after, stands_no_space, taken_stands, skip_gap, gap_skip, gap_rise}
 use Rattle.syntax.proofs.Operators.{operator_derives, operator-found, operator_no_space, operator_rise}
 use Rattle.syntax.proofs.Values.{part_at, value_derives, value_found, value_no_space, value_rise}
@@ -55,25 +53,25 @@ follows-found {close} (a_close {xs = xs}) = rw (eq-eqb close close refl) (or-tru
 
 -- ---- a test that is found is one
 
-abbrev pub TestDerived : List ℕ → ℕ → ℕ → FoundTest → Type 0
-TestDerived xs close p (FoundTest.Test r) = TestAt xs close p r.value.next (test_of xs r)
-TestDerived xs close p FoundTest.Nothing = Unit {0}
+abbrev pub TestDerived : List ℕ → ℕ → ℕ → Option RawTest → Type 0
+TestDerived xs close p (Some r) = TestAt xs close p r.value.next (test_of xs r)
+TestDerived xs close p None = Unit {0}
 
 module _ (xs : List ℕ) (close p e : ℕ) (l : e ≡ p + length (part xs p e)) (s : Stands xs p (part xs p e)) (n : Name (part xs p e)) where
-  value-follows : (a k : ℕ) → Gap xs e a → Operator xs a k → (b : ℕ) → Gap xs (a + 2) b → (f : FoundValue) → value_at xs b ≡ f
-      → TestDerived xs close p (with_value f λ v. cond (follows close (drop v.next xs)) (FoundTest.Test (record { at = p; until = e; operator = k; value = v })) FoundTest.Nothing)
-  value-follows a k g o b h (FoundValue.Value v) i =
+  value-follows : (a k : ℕ) → Gap xs e a → Operator xs a k → (b : ℕ) → Gap xs (a + 2) b → (f : Option RawValue) → value_at xs b ≡ f
+      → TestDerived xs close p (with_value f λ v. cond (follows close (drop v.next xs)) (Some (record { at = p; until = e; operator = k; value = v })) None)
+  value-follows a k g o b h (Some v) i =
       cond-elim (TestDerived xs close p) (follows close (drop v.next xs))
       (λ f. a_test s n (subst (λ (m : ℕ). Gap xs m a) l g) o h (value_derives xs b v i) (follows_derives close (drop v.next xs) f))
       (λ f. tt)
-  value-follows a k g o b h FoundValue.Nothing i = tt
+  value-follows a k g o b h None i = tt
 
-  operator-follows : (a : ℕ) → Gap xs e a → (f : FoundOperator) → operator_at xs a ≡ f → TestDerived xs close p (with_operator f λ k. test_value xs close p e k (a + 2))
+  operator-follows : (a : ℕ) → Gap xs e a → (f : Option ℕ) → operator_at xs a ≡ f → TestDerived xs close p (with_operator f λ k. test_value xs close p e k (a + 2))
   unfolding test_value
-  operator-follows a g (FoundOperator.Is k) i =
+  operator-follows a g (Some k) i =
       cond-elim (TestDerived xs close p) (eqb (skip_at xs (a + 2)) (a + 2)) (λ f. tt)
       (λ f. value-follows a k g (operator_derives xs a k i) (skip_at xs (a + 2)) (skip_gap xs (a + 2) f) (value_at xs (skip_at xs (a + 2))) refl)
-  operator-follows a g FoundOperator.Nothing i = tt
+  operator-follows a g None i = tt
 
   name-follows : TestDerived xs close p (test_operator xs close p e)
   unfolding test_operator
@@ -98,7 +96,7 @@ test_derived xs close p =
 
 pub record TestFound (xs : List ℕ) (close p q : ℕ) (t : Test) : Type 0 where
   pub raw : RawTest
-  pub found : test_at xs close p ≡ FoundTest.Test raw
+  pub found : test_at xs close p ≡ Some raw
   pub ends : raw.value.next ≡ q
   pub is : test_of xs raw ≡ t
 
@@ -167,35 +165,35 @@ module _ (xs : List ℕ) (close at : ℕ) where
     follows_close h = rw (drop-cons xs at 0 inside, ne_eqb _ _ h)
 
 module _ (xs : List ℕ) (close p e k o : ℕ) (b : ℕ) (s : RunEnd is_space xs o b) where
-  pub test_no_gap : b ≡ o → FoundTest.Nothing ≡ test_value xs close p e k o
+  pub test_no_gap : b ≡ o → None ≡ test_value xs close p e k o
   unfolding test_value
   test_no_gap h = rw (← s.is, eq-eqb b o h)
 
-  module _ (n : b ≡ o → ⊥) (f : FoundValue) (i : f ≡ value_at xs b) where
-    pub test_no_value : f ≡ FoundValue.Nothing → FoundTest.Nothing ≡ test_value xs close p e k o
+  module _ (n : b ≡ o → ⊥) (f : Option RawValue) (i : f ≡ value_at xs b) where
+    pub test_no_value : f ≡ None → None ≡ test_value xs close p e k o
     unfolding test_value
     test_no_value h = rw (← s.is, ne_eqb b o n, sym i ∙ h)
 
-    module _ (v : RawValue) (h : f ≡ FoundValue.Value v) (r : Bool) (j : r ≡ follows close (drop v.next xs)) where
-      pub test_value_lem : r ≡ true → FoundTest.Test (record { at = p; until = e; operator = k; value = v }) ≡ test_value xs close p e k o
+    module _ (v : RawValue) (h : f ≡ Some v) (r : Bool) (j : r ≡ follows close (drop v.next xs)) where
+      pub test_value_lem : r ≡ true → Some (record { at = p; until = e; operator = k; value = v }) ≡ test_value xs close p e k o
       unfolding test_value
       test_value_lem t = rw (← s.is, ne_eqb b o n, sym i ∙ h, sym j ∙ t)
 
-      pub test_not_followed : r ≡ false → FoundTest.Nothing ≡ test_value xs close p e k o
+      pub test_not_followed : r ≡ false → None ≡ test_value xs close p e k o
       unfolding test_value
       test_not_followed t = rw (← s.is, ne_eqb b o n, sym i ∙ h, sym j ∙ t)
 
 module _ (xs : List ℕ) (close p e a : ℕ) (s : RunEnd is_space xs e a) where
-  pub operator_no_gap : a ≡ e → FoundTest.Nothing ≡ test_operator xs close p e
+  pub operator_no_gap : a ≡ e → None ≡ test_operator xs close p e
   unfolding test_operator
   operator_no_gap h = rw (← s.is, eq-eqb a e h)
 
-  module _ (n : a ≡ e → ⊥) (f : FoundOperator) (i : f ≡ operator_at xs a) where
-    pub test_no_operator : f ≡ FoundOperator.Nothing → FoundTest.Nothing ≡ test_operator xs close p e
+  module _ (n : a ≡ e → ⊥) (f : Option ℕ) (i : f ≡ operator_at xs a) where
+    pub test_no_operator : f ≡ None → None ≡ test_operator xs close p e
     unfolding test_operator
     test_no_operator h = rw (← s.is, ne_eqb a e n, sym i ∙ h)
 
-    pub test_operator_lem : (k : ℕ) (r : FoundTest) → f ≡ FoundOperator.Is k → r ≡ test_value xs close p e k (a + 2) → r ≡ test_operator xs close p e
+    pub test_operator_lem : (k : ℕ) (r : Option RawTest) → f ≡ Some k → r ≡ test_value xs close p e k (a + 2) → r ≡ test_operator xs close p e
     unfolding test_operator
     test_operator_lem k r h t = rw (← s.is, ne_eqb a e n, sym i ∙ h) t
 
@@ -237,18 +235,18 @@ module _ (xs : List ℕ) (p e : ℕ) (s : RunEnd is_name_part xs p e) where
     run-name t w k = name_not_reserved (part xs p e) run-full r run-starts t true run_goes_on refl w k
 
 module _ (xs : List ℕ) (close p e : ℕ) (s : RunEnd is_name_part xs p e) (r : Bool) (i : r ≡ is_name (part xs p e)) where
-  pub test_no_name : r ≡ false → FoundTest.Nothing ≡ test_at xs close p
+  pub test_no_name : r ≡ false → None ≡ test_at xs close p
   unfolding test_at
   test_no_name h = rw (← s.is, sym i ∙ h)
 
-  pub test_name : (t : FoundTest) → r ≡ true → t ≡ test_operator xs close p e → t ≡ test_at xs close p
+  pub test_name : (t : Option RawTest) → r ≡ true → t ≡ test_operator xs close p e → t ≡ test_at xs close p
   unfolding test_at
   test_name t h j = rw (← s.is, sym i ∙ h) j
 
 -- a value that is found ends inside the text
-pub value-within : (xs : List ℕ) (p : ℕ) (f : FoundValue) (v : RawValue) → f ≡ value_at xs p → f ≡ FoundValue.Value v → v.next ≤ length xs
+pub value-within : (xs : List ℕ) (p : ℕ) (f : Option RawValue) (v : RawValue) → f ≡ value_at xs p → f ≡ Some v → v.next ≤ length xs
 value-within xs p f v e h = (value_rise (value_derives xs p v (sym e ∙ h))).1
 
 -- an operator that is found ends inside the text
-pub operator-within : (xs : List ℕ) (p k : ℕ) (f : FoundOperator) → f ≡ operator_at xs p → f ≡ FoundOperator.Is k → p + 2 ≤ length xs
+pub operator-within : (xs : List ℕ) (p k : ℕ) (f : Option ℕ) → f ≡ operator_at xs p → f ≡ Some k → p + 2 ≤ length xs
 operator-within xs p k f e h = operator_rise (operator_derives xs p k (sym e ∙ h))

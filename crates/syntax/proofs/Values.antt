@@ -5,6 +5,7 @@
 -- is a run of bytes, which is found whole where none goes on behind it (`value-named`). The code's loop keeps that what is left decides
 -- (`Reading`).
 -- Assumes nothing.
+use Rattle.std.specs.Prelude.{Option, Some, None}
 use Prim.Native.Nat.{ℕ, suc, ◌+◌, ◌-◌, ◌≤◌, ◌<◌}
 use native.Mathlib.Omega.{arith}
 use native.Mathlib.Nat.{add-zero, le_refl, le_of_eq}
@@ -26,11 +27,10 @@ use Rattle.base.proofs.Runs.{run-within, run_take, run_then}
 use Rattle.syntax.proofs.Bytes.{escape_stands, stands_escape}
 use Rattle.syntax.specs.Strings.{quote, backslash, is_bare, is_plain, is_escape, Quoted, nothing_more, plain, escaped}
 use Rattle.syntax.specs.Grammar.{Stands, Value, bare, string, Follows, the_end, a_space, a_close}
-use Rattle.syntax.specs.Scan.{step_of, on_step, string_from, string_at, string_value, bare_value, value_at, decode, contents}
+use Rattle.syntax.specs.Scan.{step_of, on_step, string_from, string_at, string_value, bare_value, value_at, decode, contents, string_end}
 use Rattle.syntax.specs.declared.StringStep.{StringStep}
-use Rattle.syntax.specs.declared.FoundString.{FoundString}
+use Rattle.syntax.specs.declared.StringEnd.{StringEnd}
 use Rattle.syntax.specs.declared.RawValue.{RawValue}
-use Rattle.syntax.specs.declared.FoundValue.{FoundValue}
 use Rattle.syntax.proofs.Words.{NoSpaceAt, stands_within, stands_after, stands_no_space}
 
 -- ---- what a byte does in a string
@@ -71,13 +71,13 @@ module _ (xs : List ℕ) (at i : ℕ) (pending met : Bool) (a : Reading xs at i 
     string_more k m t f =
         record { from = omega (arith, a.from); within = omega arith; left = a.left ∙ rw (string-step xs pending met i h, sym e ∙ t, f) }
 
-    pub string_closes : s ≡ StringStep.Close → FoundString.Closed i met ≡ string_at xs false false at
+    pub string_closes : s ≡ StringStep.Close → Some (string_end i met) ≡ string_at xs false false at
     string_closes t = sym (a.left ∙ rw (string-step xs pending met i h, sym e ∙ t))
 
-    pub string_wrong : s ≡ StringStep.Wrong → FoundString.Nothing ≡ string_at xs false false at
+    pub string_wrong : s ≡ StringStep.Wrong → None ≡ string_at xs false false at
     string_wrong t = sym (a.left ∙ rw (string-step xs pending met i h, sym e ∙ t))
 
-  pub string_open : length xs ≤ i → FoundString.Nothing ≡ string_at xs false false at
+  pub string_open : length xs ≤ i → None ≡ string_at xs false false at
   unfolding string_at string_from
   string_open h = sym (a.left ∙ rw (drop_of_length-le xs h))
 
@@ -97,14 +97,16 @@ record Ended (ys : List ℕ) (pending met : Bool) (p e : ℕ) (found : Bool) : T
   quoted : Quoted (after_backslash pending body) (decode pending body)
   as_it_stands : (found ≡ true) ⊎ ((met ≡ false) × (decode pending body ≡ body))
 
-closed_same : {e e' : ℕ} {g g' : Bool} → FoundString.Closed e g ≡ FoundString.Closed e' g' → (e ≡ e') × (g ≡ g')
-closed_same h = (cc, cc)
+closed_same : {e e' : ℕ} {g g' : Bool} → Some (string_end e g) ≡ Some (string_end e' g') → (e ≡ e') × (g ≡ g')
+closed_same {e} {e'} {g} {g'} h =
+    let s : string_end e g ≡ string_end e' g' = cc in
+    (ap (λ (x : StringEnd). x.end) s, ap (λ (x : StringEnd). x.escaped) s)
 
-never_closed : {X : Type 0} {e : ℕ} {g : Bool} → FoundString.Nothing ≡ FoundString.Closed e g → X
+never_closed : {X : Type 0} {e : ℕ} {g : Bool} → None ≡ Some (string_end e g) → X
 never_closed h = let z : ◌≡◌ {A = ℕ} 0 1 = cc in absurd (omega arith)
 
 module _ (y : ℕ) (ys : List ℕ) (p e : ℕ) (found : Bool) where
-  ended_here : (met : Bool) → y ≡ quote → FoundString.Closed p met ≡ FoundString.Closed e found → Ended (y ∷ ys) false met p e found
+  ended_here : (met : Bool) → y ≡ quote → Some (string_end p met) ≡ Some (string_end e found) → Ended (y ∷ ys) false met p e found
   unfolding decode
   ended_here met q h =
       let s = closed_same h in
@@ -155,14 +157,14 @@ module _ (y : ℕ) (ys : List ℕ) (p e : ℕ) (found : Bool) where
         as_it_stands = ⊎_elim (λ t. inl t) (λ (t : (met ≡ false) × (decode false r.body ≡ r.body)). inr (t.0, rw n (ap (λ (l : List ℕ). y ∷ l) t.1))) r.as_it_stands;
       }
 
-string-ended : (ys : List ℕ) (pending met : Bool) (p e : ℕ) (found : Bool) → (pending ≡ true → met ≡ true) → string_from ys pending met p ≡ FoundString.Closed e found → Ended ys pending met p e found
+string-ended : (ys : List ℕ) (pending met : Bool) (p e : ℕ) (found : Bool) → (pending ≡ true → met ≡ true) → string_from ys pending met p ≡ Some (string_end e found) → Ended ys pending met p e found
 unfolding string_from
 string-ended [] pending met p e found inv h = never_closed h
 string-ended (y ∷ ys) pending met p e found inv h = go pending inv (step_of pending y) (step_is pending y) h (λ k m i r. string-ended ys k m (p + 1) e found i r)
   where
     go : (pending : Bool) → (pending ≡ true → met ≡ true) → (s : StringStep) → Step pending y s
-        → on_step s (λ k. string_from ys k (met || k) (p + 1)) p met ≡ FoundString.Closed e found
-        → ((k m : Bool) → (k ≡ true → m ≡ true) → string_from ys k m (p + 1) ≡ FoundString.Closed e found → Ended ys k m (p + 1) e found)
+        → on_step s (λ k. string_from ys k (met || k) (p + 1)) p met ≡ Some (string_end e found)
+        → ((k m : Bool) → (k ≡ true → m ≡ true) → string_from ys k m (p + 1) ≡ Some (string_end e found) → Ended ys k m (p + 1) e found)
         → Ended (y ∷ ys) pending met p e found
     go true inv _ (ends_escape b) h next =
         rw (inv refl) (ended_escape y ys p e found b (next false true (λ t. refl) (rw (inv refl) at h)))
@@ -183,17 +185,17 @@ string_escape : (y : ℕ) (ys : List ℕ) (met : Bool) (p : ℕ) → is_escape y
 unfolding string_from step_of
 string_escape y ys met p h = rw (or-true met, h)
 
-string-found : {s v : List ℕ} → Quoted s v → (t : List ℕ) (met : Bool) (p : ℕ) → (found : Bool) × (string_from (s ++ quote ∷ t) false met p ≡ FoundString.Closed (p + length s) found)
+string-found : {s v : List ℕ} → Quoted s v → (t : List ℕ) (met : Bool) (p : ℕ) → (found : Bool) × (string_from (s ++ quote ∷ t) false met p ≡ Some (string_end (p + length s) found))
 unfolding string_from step_of
 string-found nothing_more t met p = (met, rw add-zero)
 string-found (plain {b = b} {s = s} h q) t met p =
     let r = string-found q t met (p + 1) in
     let n : p + 1 + length s ≡ p + suc (length s) = omega arith in
-    (r.0, string-plain b (s ++ quote ∷ t) met p h ∙ r.1 ∙ ap (λ (k : ℕ). FoundString.Closed k r.0) n)
+    (r.0, string-plain b (s ++ quote ∷ t) met p h ∙ r.1 ∙ ap (λ (k : ℕ). Some (string_end k r.0)) n)
 string-found (escaped {b = b} {s = s} h q) t met p =
     let r = string-found q t true (p + 1 + 1) in
     let n : p + 1 + 1 + length s ≡ p + suc (suc (length s)) = omega arith in
-    (r.0, string_escape b (s ++ quote ∷ t) met p (escape_stands h).0 ∙ r.1 ∙ ap (λ (k : ℕ). FoundString.Closed k r.0) n)
+    (r.0, string_escape b (s ++ quote ∷ t) met p (escape_stands h).0 ∙ r.1 ∙ ap (λ (k : ℕ). Some (string_end k r.0)) n)
 
 quoted-decode : {s v : List ℕ} → Quoted s v → decode false s ≡ v
 unfolding decode is_plain
@@ -234,15 +236,15 @@ bare_derives xs p b ys e h q =
     rw h (subst (λ (k : ℕ). Value xs p k (b ∷ w)) m (bare (drop (run is_bare ys) ys, z) (every_all is_bare (b ∷ w) all) q))
 
 -- what is known of a value that the scan gives
-abbrev Derived : List ℕ → ℕ → FoundValue → Type 0
-Derived xs p (FoundValue.Value v) = Value xs p v.next (contents v.escaped (part xs v.start v.end))
-Derived xs p FoundValue.Nothing = Unit {0}
+abbrev Derived : List ℕ → ℕ → Option RawValue → Type 0
+Derived xs p (Some v) = Value xs p v.next (contents v.escaped (part xs v.start v.end))
+Derived xs p None = Unit {0}
 
-string-value : (xs : List ℕ) (p : ℕ) (f : FoundString) → drop p xs ≡ quote ∷ drop (p + 1) xs → string_at xs false false (p + 1) ≡ f → Derived xs p (string_value p f)
+string-value : (xs : List ℕ) (p : ℕ) (f : Option StringEnd) → drop p xs ≡ quote ∷ drop (p + 1) xs → string_at xs false false (p + 1) ≡ f → Derived xs p (string_value p f)
 unfolding string_at
-string-value xs p (FoundString.Closed e found) h i =
-    string_derives xs p e found h (string-ended (drop (p + 1) xs) false false (p + 1) e found (λ t. absurd (false≢true t)) i)
-string-value xs p FoundString.Nothing h i = tt
+string-value xs p (Some s) h i =
+    string_derives xs p s.end s.escaped h (string-ended (drop (p + 1) xs) false false (p + 1) s.end s.escaped (λ t. absurd (false≢true t)) i)
+string-value xs p None h i = tt
 
 value_derived : (xs : List ℕ) (p : ℕ) → Derived xs p (value_at xs p)
 unfolding value_at run_end
@@ -259,7 +261,7 @@ value_derived xs p =
         let k : p + run is_bare (drop p xs) - p ≡ run is_bare (drop p xs) = omega arith in
         rw (k, e) (bare_derives xs p (get_or xs p 0) (drop (p + 1) xs) e h (eqb-false _ _ q))
 
-pub value_derives : (xs : List ℕ) (p : ℕ) (v : RawValue) → value_at xs p ≡ FoundValue.Value v → Value xs p v.next (contents v.escaped (part xs v.start v.end))
+pub value_derives : (xs : List ℕ) (p : ℕ) (v : RawValue) → value_at xs p ≡ Some v → Value xs p v.next (contents v.escaped (part xs v.start v.end))
 value_derives xs p v e = rw e at (value_derived xs p)
 
 -- ---- a value is found, up to its end
@@ -274,7 +276,7 @@ follows-run close h a_close = rw h
 -- the scan finds a value that ends at q and decodes to v
 pub record Found (xs : List ℕ) (p q : ℕ) (v : List ℕ) : Type 0 where
   pub raw : RawValue
-  pub found : value_at xs p ≡ FoundValue.Value raw
+  pub found : value_at xs p ≡ Some raw
   pub ends : raw.next ≡ q
   pub decodes : contents raw.escaped (part xs raw.start raw.end) ≡ v
 
@@ -303,7 +305,7 @@ string-at xs p s v h q =
     let d : drop (p + 1) xs ≡ s ++ quote ∷ h.0 = sym (drop-drop 1 p xs) ∙ ap (drop 1) e in
     let g : get_or xs p 0 ≡ quote = get_d_drop_cons xs p quote (s ++ quote ∷ h.0) e in
     let r = string-found q h.0 false (p + 1) in
-    let i : string_from (drop (p + 1) xs) false false (p + 1) ≡ FoundString.Closed (p + 1 + length s) r.0 = ap (λ (l : List ℕ). string_from l false false (p + 1)) d ∙ r.1 in
+    let i : string_from (drop (p + 1) xs) false false (p + 1) ≡ Some (string_end (p + 1 + length s) r.0) = ap (λ (l : List ℕ). string_from l false false (p + 1)) d ∙ r.1 in
     let ended = string-ended (drop (p + 1) xs) false false (p + 1) (p + 1 + length s) r.0 (λ t. absurd (false≢true t)) i in
     record {
       raw = record { start = p + 1; end = p + 1 + length s; escaped = r.0; next = p + 1 + length s + 1 };
@@ -338,11 +340,11 @@ run_past p [] = refl
 run_past p (x ∷ s) = ⊎_elim (λ (d : p x ≡ true). rw d (run_past p s)) (λ (d : p x ≡ false). rw (d, d)) (decided (p x))
 
 -- where a bare word that is found ends, none goes on
-abbrev Ends : List ℕ → FoundValue → Type 0
-Ends xs (FoundValue.Value v) = run is_bare (drop v.next xs) ≡ 0
-Ends xs FoundValue.Nothing = Unit {0}
+abbrev Ends : List ℕ → Option RawValue → Type 0
+Ends xs (Some v) = run is_bare (drop v.next xs) ≡ 0
+Ends xs None = Unit {0}
 
-pub value-ends : (xs : List ℕ) (p : ℕ) (v : RawValue) → value_at xs p ≡ FoundValue.Value v → (get_or xs p 0 ≡ quote → ⊥) → run is_bare (drop v.next xs) ≡ 0
+pub value-ends : (xs : List ℕ) (p : ℕ) (v : RawValue) → value_at xs p ≡ Some v → (get_or xs p 0 ≡ quote → ⊥) → run is_bare (drop v.next xs) ≡ 0
 unfolding value_at run_end
 value-ends xs p v e n =
     let z : run is_bare (drop (p + run is_bare (drop p xs)) xs) ≡ 0 = ap (run is_bare) (sym (drop-drop (run is_bare (drop p xs)) p xs)) ∙ run_past is_bare (drop p xs) in
@@ -364,7 +366,7 @@ value_rise {xs} (string {p = p} {s = s} h q) = (omega arith, omega (arith, stand
 -- ---- as the code finds a value
 
 module _ (xs : List ℕ) (at : ℕ) where
-  pub value_end : at ≡ length xs → FoundValue.Nothing ≡ value_at xs at
+  pub value_end : at ≡ length xs → None ≡ value_at xs at
   unfolding value_at
   value_end h = rw (le-ltb at (length xs) (le_of_eq (sym h)))
 
@@ -372,33 +374,33 @@ module _ (xs : List ℕ) (at : ℕ) where
     inside : at < length xs
     inside = omega arith
 
-    module _ (q : get_or xs at 0 ≡ quote) (f : FoundString) (e : f ≡ string_at xs false false (at + 1)) where
-      pub value-string : (end : ℕ) (found : Bool) → f ≡ FoundString.Closed end found → FoundValue.Value (record { start = at + 1; end = end; escaped = found; next = end + 1 }) ≡ value_at xs at
+    module _ (q : get_or xs at 0 ≡ quote) (f : Option StringEnd) (e : f ≡ string_at xs false false (at + 1)) where
+      pub value-string : (s : StringEnd) → f ≡ Some s → Some (record { start = at + 1; end = s.end; escaped = s.escaped; next = s.end + 1 }) ≡ value_at xs at
       unfolding value_at
-      value-string end found h = rw (lt-ltb at (length xs) inside, eq-eqb _ _ q, sym e ∙ h)
+      value-string s h = rw (lt-ltb at (length xs) inside, eq-eqb _ _ q, sym e ∙ h)
 
-      pub value_open : f ≡ FoundString.Nothing → FoundValue.Nothing ≡ value_at xs at
+      pub value_open : f ≡ None → None ≡ value_at xs at
       unfolding value_at
       value_open h = rw (lt-ltb at (length xs) inside, eq-eqb _ _ q, sym e ∙ h)
 
     module _ (q : get_or xs at 0 ≡ quote → ⊥) (r : Bool) (e : r ≡ is_bare (get_or xs at 0)) where
-      pub value_bare : (end : ℕ) → RunEnd is_bare xs at end → r ≡ true → FoundValue.Value (record { start = at; end = end; escaped = false; next = end }) ≡ value_at xs at
+      pub value_bare : (end : ℕ) → RunEnd is_bare xs at end → r ≡ true → Some (record { start = at; end = end; escaped = false; next = end }) ≡ value_at xs at
       unfolding value_at
       value_bare end h t = rw (lt-ltb at (length xs) inside, ne_eqb _ _ q, sym e ∙ t, h.is)
 
-      pub value_none : r ≡ false → FoundValue.Nothing ≡ value_at xs at
+      pub value_none : r ≡ false → None ≡ value_at xs at
       unfolding value_at
       value_none t = rw (lt-ltb at (length xs) inside, ne_eqb _ _ q, sym e ∙ t)
 
 -- a closing quote stands inside the text
-pub string-within : (xs : List ℕ) (at end : ℕ) (found : Bool) (f : FoundString) → f ≡ string_at xs false false at → f ≡ FoundString.Closed end found → at ≤ length xs → end < length xs
+pub string-within : (xs : List ℕ) (at : ℕ) (s : StringEnd) (f : Option StringEnd) → f ≡ string_at xs false false at → f ≡ Some s → at ≤ length xs → s.end < length xs
 unfolding string_at
-string-within xs at end found f e h i =
-    let r = string-ended (drop at xs) false false at end found (λ t. absurd (false≢true t)) (sym e ∙ h) in
+string-within xs at s f e h i =
+    let r = string-ended (drop at xs) false false at s.end s.escaped (λ t. absurd (false≢true t)) (sym e ∙ h) in
     omega (arith, r.at, ap length r.split, length-drop at xs, length-append r.body (quote ∷ r.tail))
 
-pub string_ahead : (xs : List ℕ) (at end : ℕ) (found : Bool) (f : FoundString) → f ≡ string_at xs false false at → f ≡ FoundString.Closed end found → at ≤ end
+pub string_ahead : (xs : List ℕ) (at : ℕ) (s : StringEnd) (f : Option StringEnd) → f ≡ string_at xs false false at → f ≡ Some s → at ≤ s.end
 unfolding string_at
-string_ahead xs at end found f e h =
-    let r = string-ended (drop at xs) false false at end found (λ t. absurd (false≢true t)) (sym e ∙ h) in
+string_ahead xs at s f e h =
+    let r = string-ended (drop at xs) false false at s.end s.escaped (λ t. absurd (false≢true t)) (sym e ∙ h) in
     omega (arith, r.at)

@@ -42,37 +42,9 @@ pub enum StringStep {
 
 // The position of a string's closing quote, and whether an escape stands before it.
 #[derive(Clone, Copy)]
-pub enum FoundString {
-    Closed(usize, bool),
-    Nothing,
-}
-
-// What a byte of a string adds to the value: a byte, or nothing where a backslash begins an escape.
-#[derive(Clone, Copy)]
-pub enum Piece {
-    Byte(u8),
-    Backslash,
-}
-
-// The value at a position, if there is one.
-#[derive(Clone, Copy)]
-pub enum FoundValue {
-    Value(RawValue),
-    Nothing,
-}
-
-// The number of an operator.
-#[derive(Clone, Copy)]
-pub enum FoundOperator {
-    Is(u8),
-    Nothing,
-}
-
-// The test at a position, if there is one.
-#[derive(Clone, Copy)]
-pub enum FoundTest {
-    Test(RawTest),
-    Nothing,
+pub struct StringEnd {
+    pub end: usize,
+    pub escaped: bool,
 }
 
 // What an item begins with: a whole test; a bracket, whose filter begins at the position, with not or without; or a name, which
@@ -82,14 +54,6 @@ pub enum Head {
     Test(RawTest),
     Open(usize, bool),
     Choice(usize),
-    Nothing,
-}
-
-// Where the name before a square bracket ends.
-#[derive(Clone, Copy)]
-pub enum FoundChoice {
-    At(usize),
-    Nothing,
 }
 
 // 01: a joining word.
@@ -101,134 +65,129 @@ pub enum Connective {
 
 // Where the item after a connective begins, and the connective.
 #[derive(Clone, Copy)]
-pub enum FoundConnective {
-    Next(usize, Connective),
-    Nothing,
-}
-
-// Where the text goes on after the byte that closes a bracket.
-#[derive(Clone, Copy)]
-pub enum FoundClose {
-    At(usize),
-    Nothing,
+pub struct Link {
+    pub next: usize,
+    pub connective: Connective,
 }
 
 // A bracket that opens at a position: "(", or "not", spaces and "(", with the spaces after it.
-fn read_open(s: &[u8], at: usize) -> Head
+fn read_open(s: &[u8], at: usize) -> Option<Head>
     requires { at ≤ length s.now }
     ensures { result ≡ open_at s.now at }
 {
     if has(s, at, b"(") {
-        return Head::Open(skip(s, at + 1), false);
+        return Some(Head::Open(skip(s, at + 1), false));
     }
     if has(s, at, b"not") {
         let bracket = skip(s, at + 3);
         if has(s, bracket, b"(") {
-            return Head::Open(skip(s, bracket + 1), true);
+            return Some(Head::Open(skip(s, bracket + 1), true));
         }
-        return Head::Nothing;
+        return None;
     }
-    Head::Nothing
+    None
 }
 
 // A name and "[" at a position.
-fn read_choice(s: &[u8], at: usize) -> FoundChoice
+fn read_choice(s: &[u8], at: usize) -> Option<usize>
     requires { at ≤ length s.now }
     ensures { result ≡ choice_at s.now at }
 {
     let until = name_end(s, at);
     if is_name_run(s, at, until) {
         if has(s, until, b"[") {
-            return FoundChoice::At(until);
+            return Some(until);
         }
-        return FoundChoice::Nothing;
+        return None;
     }
-    FoundChoice::Nothing
+    None
 }
 
 // A bracket that opens at a position, round or, after a name, square.
-fn read_bracket(s: &[u8], at: usize) -> Head
+fn read_bracket(s: &[u8], at: usize) -> Option<Head>
     requires { at ≤ length s.now }
     ensures { result ≡ choice_or (choice_at s.now at) (open_at s.now at) }
 {
     match read_choice(s, at) {
-        FoundChoice::At(until) => Head::Choice(until),
-        FoundChoice::Nothing => read_open(s, at),
+        Some(until) => Some(Head::Choice(until)),
+        None => read_open(s, at),
     }
 }
 
 // What an item begins with at a position, where `close` closes the bracket around the item.
-pub fn read_head(s: &[u8], close: u8, at: usize) -> Head
+pub fn read_head(s: &[u8], close: u8, at: usize) -> Option<Head>
     requires { at ≤ length s.now }
     ensures { result ≡ head_at s.now close at }
 {
     match read_test(s, close, at) {
-        FoundTest::Test(test) => Head::Test(test),
-        FoundTest::Nothing => read_bracket(s, at),
+        Some(test) => Some(Head::Test(test)),
+        None => read_bracket(s, at),
     }
 }
 
 // The test that an item begins with, if it does.
-fn test_in(head: Head) -> FoundTest
+fn test_in(head: Option<Head>) -> Option<RawTest>
     ensures { result ≡ test_in head }
 {
     match head {
-        Head::Test(test) => FoundTest::Test(test),
-        Head::Open(_, _) => FoundTest::Nothing,
-        Head::Choice(_) => FoundTest::Nothing,
-        Head::Nothing => FoundTest::Nothing,
+        Some(Head::Test(test)) => Some(test),
+        _ => None,
     }
 }
 
 // "." and the test of a member at a position, where `close` closes the bracket around it. It is read by way of `read_head`, so that
 // `read_test` has one caller and is compiled into it.
-fn read_dotted(s: &[u8], close: u8, at: usize) -> FoundTest
+fn read_dotted(s: &[u8], close: u8, at: usize) -> Option<RawTest>
     requires { at ≤ length s.now }
     ensures { result ≡ member_at s.now close at }
 {
     if has(s, at, b".") {
         return test_in(read_head(s, close, at + 1));
     }
-    FoundTest::Nothing
+    None
 }
 
 // The test of a member after a filter in square brackets that ends at a position, where `close` closes the bracket around it.
-pub fn read_member(s: &[u8], close: u8, at: usize) -> FoundTest
+pub fn read_member(s: &[u8], close: u8, at: usize) -> Option<RawTest>
     requires { at ≤ length s.now }
     ensures { result ≡ member_after s.now close at }
 {
-    match read_close(s, b']', at) {
-        FoundClose::At(after) => read_dotted(s, close, after),
-        FoundClose::Nothing => FoundTest::Nothing,
-    }
+    let after = read_close(s, b']', at)?;
+    read_dotted(s, close, after)
 }
 
 // The connective after an item that ends at a position, "with at least one space on both sides".
-pub fn read_connective(s: &[u8], at: usize) -> FoundConnective
+pub fn read_connective(s: &[u8], at: usize) -> Option<Link>
     requires { at ≤ length s.now }
     ensures { result ≡ connective_at s.now at }
 {
     let word = skip(s, at);
     if word == at {
-        return FoundConnective::Nothing;
+        return None;
     }
     if has(s, word, b"and ") {
-        return FoundConnective::Next(skip(s, word + 4), Connective::And);
+        return Some(Link {
+            next: skip(s, word + 4),
+            connective: Connective::And,
+        });
     }
     if has(s, word, b"or ") {
-        return FoundConnective::Next(skip(s, word + 3), Connective::Or);
+        return Some(Link {
+            next: skip(s, word + 3),
+            connective: Connective::Or,
+        });
     }
-    FoundConnective::Nothing
+    None
 }
 
 // The byte that closes a bracket after a filter that ends at a position.
-pub fn read_close(s: &[u8], close: u8, at: usize) -> FoundClose
+pub fn read_close(s: &[u8], close: u8, at: usize) -> Option<usize>
     requires { at ≤ length s.now }
     ensures { result ≡ close_at s.now close at }
 {
     let end = skip(s, at);
     if has(s, end, &[close]) {
-        return FoundClose::At(end + 1);
+        return Some(end + 1);
     }
-    FoundClose::Nothing
+    None
 }

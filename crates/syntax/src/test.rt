@@ -5,9 +5,9 @@ ghost use Rattle.base.specs.Parts.{part};
 ghost use Rattle.base.specs.Runs.{RunEnd};
 ghost use Rattle.syntax.specs.Scan.{follows, operator_at, test_value, test_operator, test_at};
 
+use crate::RawTest;
 use crate::scan::{name_end, skip};
 use crate::value::read_value;
-use crate::{FoundOperator, FoundTest, FoundValue, RawTest};
 use base::name::{is_name_start, is_reserved};
 
 // Two letters as one number.
@@ -26,12 +26,12 @@ fn same_letters(first: u8, second: u8, one: u8, two: u8) -> bool
 
 // The operator at a position. The words stand in one text outside the loop, since a text in the code is copied each time it is
 // come to.
-pub fn read_operator(s: &[u8], at: usize) -> FoundOperator
+pub fn read_operator(s: &[u8], at: usize) -> Option<u8>
     requires { at ≤ length s.now }
     ensures { result ≡ operator_at s.now at }
 {
     if s.len() - at < 2 {
-        return FoundOperator::Nothing;
+        return None;
     }
     let first = s[at];
     let second = s[at + 1];
@@ -40,11 +40,11 @@ pub fn read_operator(s: &[u8], at: usize) -> FoundOperator
     while k < base::operator::COUNT {
         let i = 2 * k as usize;
         if same_letters(first, second, words[i], words[i + 1]) {
-            return FoundOperator::Is(k);
+            return Some(k);
         }
         k += 1;
     }
-    FoundOperator::Nothing
+    None
 }
 
 // Whether a value may end at a position: "after a value comes a space, a ")" or the end", where `close` closes the
@@ -71,44 +71,37 @@ fn read_test_value(
     until: usize,
     operator: u8,
     after: usize,
-) -> FoundTest
+) -> Option<RawTest>
     requires { after ≤ length s.now }
     ensures { result ≡ test_value s.now close at until operator after }
 {
     let start = skip(s, after);
     if start == after {
-        return FoundTest::Nothing;
+        return None;
     }
-    match read_value(s, start) {
-        FoundValue::Value(value) => {
-            let next = value.next;
-            if may_follow(s, next, close) {
-                return FoundTest::Test(RawTest {
-                    at,
-                    until,
-                    operator,
-                    value,
-                });
-            }
-            FoundTest::Nothing
-        }
-        FoundValue::Nothing => FoundTest::Nothing,
+    let value = read_value(s, start)?;
+    if may_follow(s, value.next, close) {
+        return Some(RawTest {
+            at,
+            until,
+            operator,
+            value,
+        });
     }
+    None
 }
 
 // The operator and the value of a test at `at` whose name ends at `until`.
-fn read_test_operator(s: &[u8], close: u8, at: usize, until: usize) -> FoundTest
+fn read_test_operator(s: &[u8], close: u8, at: usize, until: usize) -> Option<RawTest>
     requires { until ≤ length s.now }
     ensures { result ≡ test_operator s.now close at until }
 {
     let word = skip(s, until);
     if word == until {
-        return FoundTest::Nothing;
+        return None;
     }
-    match read_operator(s, word) {
-        FoundOperator::Is(operator) => read_test_value(s, close, at, until, operator, word + 2),
-        FoundOperator::Nothing => FoundTest::Nothing,
-    }
+    let operator = read_operator(s, word)?;
+    read_test_value(s, close, at, until, operator, word + 2)
 }
 
 // Whether the bytes from `at` up to `until`, with each of which a name may go on, are a name.
@@ -126,7 +119,7 @@ pub fn is_name_run(s: &[u8], at: usize, until: usize) -> bool
 }
 
 // The test that begins at a position, where `close` closes the bracket around it.
-pub fn read_test(s: &[u8], close: u8, at: usize) -> FoundTest
+pub fn read_test(s: &[u8], close: u8, at: usize) -> Option<RawTest>
     requires { at ≤ length s.now }
     ensures { result ≡ test_at s.now close at }
 {
@@ -134,5 +127,5 @@ pub fn read_test(s: &[u8], close: u8, at: usize) -> FoundTest
     if is_name_run(s, at, until) {
         return read_test_operator(s, close, at, until);
     }
-    FoundTest::Nothing
+    None
 }

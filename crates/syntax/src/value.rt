@@ -4,7 +4,7 @@ ghost use Rattle.base.specs.Runs.{RunEnd};
 ghost use Rattle.syntax.specs.Strings.{is_bare, is_escape, unescaped};
 ghost use Rattle.syntax.specs.Scan.{step_of, string_at, value_at, piece_of, Decoded};
 
-use crate::{FoundString, FoundValue, Piece, RawValue, StringStep};
+use crate::{RawValue, StringEnd, StringStep};
 
 // Whether a byte may stand in a bare word: "bytes 0x21 to 0x7E, without ")" and "]"".
 pub fn is_bare(b: u8) -> bool
@@ -89,7 +89,7 @@ fn either(a: bool, b: bool) -> bool
 }
 
 // The closing quote of a string whose first byte, after the opening quote, is at the position.
-fn read_string(s: &[u8], at: usize) -> FoundString
+fn read_string(s: &[u8], at: usize) -> Option<StringEnd>
     requires { at ≤ length s.now }
     ensures { result ≡ string_at s.now false false at }
 {
@@ -104,64 +104,58 @@ fn read_string(s: &[u8], at: usize) -> FoundString
                 i += 1;
             }
             StringStep::Close => {
-                return FoundString::Closed(i, escaped);
+                return Some(StringEnd { end: i, escaped });
             }
             StringStep::Wrong => {
-                return FoundString::Nothing;
+                return None;
             }
         }
     }
-    FoundString::Nothing
+    None
 }
 
 // The value that begins at a position: "a quoted string or a bare word".
-pub fn read_value(s: &[u8], at: usize) -> FoundValue
+pub fn read_value(s: &[u8], at: usize) -> Option<RawValue>
     requires { at ≤ length s.now }
     ensures { result ≡ value_at s.now at }
 {
     if at == s.len() {
-        return FoundValue::Nothing;
+        return None;
     }
     let b = s[at];
     if b == b'"' {
         let start = at + 1;
-        match read_string(s, start) {
-            FoundString::Closed(end, escaped) => {
-                return FoundValue::Value(RawValue {
-                    start,
-                    end,
-                    escaped,
-                    next: end + 1,
-                });
-            }
-            FoundString::Nothing => {
-                return FoundValue::Nothing;
-            }
-        }
+        let string = read_string(s, start)?;
+        return Some(RawValue {
+            start,
+            end: string.end,
+            escaped: string.escaped,
+            next: string.end + 1,
+        });
     }
     if is_bare(b) {
         let end = bare_end(s, at);
-        return FoundValue::Value(RawValue {
+        return Some(RawValue {
             start: at,
             end,
             escaped: false,
             next: end,
         });
     }
-    FoundValue::Nothing
+    None
 }
 
 // What a byte of a string adds to the value, where `pending` says that a backslash stands before it.
-fn piece(pending: bool, b: u8) -> Piece
+fn piece(pending: bool, b: u8) -> Option<u8>
     ensures { result ≡ piece_of pending b }
 {
     if pending {
-        return Piece::Byte(unescaped(b));
+        return Some(unescaped(b));
     }
     if b == b'\\' {
-        return Piece::Backslash;
+        return None;
     }
-    Piece::Byte(b)
+    Some(b)
 }
 
 // Writes the value of a string's bytes, with each escape resolved, from the buffer's first byte, and answers its length.
@@ -174,13 +168,13 @@ pub fn decode(raw: &[u8], out: &mut [u8]) -> usize
     let mut pending = false;
     while i < raw.len() {
         match piece(pending, raw[i]) {
-            Piece::Byte(b) => {
+            Some(b) => {
                 out[n] = b;
                 n += 1;
                 pending = false;
                 i += 1;
             }
-            Piece::Backslash => {
+            None => {
                 pending = true;
                 i += 1;
             }

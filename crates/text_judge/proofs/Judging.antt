@@ -7,7 +7,6 @@
 -- Assumes nothing.
 use Rattle.std.specs.Prelude.{Option, None, Some}
 use Prim.Native.Nat.{ℕ}
-use native.Mathlib.Omega.{arith}
 use mathlib.Core.Path.{◌≡◌, refl, ap, sym, ◌∙◌}
 use mathlib.Core.Bool.{Bool, true, false, cond, not, ◌&&◌, ◌||◌}
 use mathlib.Core.List.{List, [], ◌∷◌}
@@ -30,18 +29,13 @@ use Rattle.syntax.specs.Tree.{Test, Tree, test, bracketed, join, negation}
 use Rattle.syntax.specs.Fold.{fold_tree}
 use Rattle.syntax.specs.declared.Connective.{Connective}
 use Rattle.judge.specs.Verdicts.{some_value, text_counts, some_says, says_at, test_says, filter_says}
-use Rattle.text_judge.specs.Folds.{undecided, judging}
+use Rattle.text_judge.specs.Folds.{judged, undecided, judging}
 use Rattle.text_judge.specs.declared.Judged.{Judged}
 use Rattle.filter.proofs.Walk.{Cases}
 
--- the two cases of an answer
-pub judged_cases : Cases Judged.Done Judged.Nothing
-judged_cases =
-    record {
-      apart = λ q a h. let z : ◌≡◌ {A = ℕ} 0 1 = cc in omega arith;
-      end = λ q p a b h. cc;
-      value = λ q p a b h. cc;
-    }
+-- an answer keeps where it ends, and what is said
+pub judged_cases : Cases judged
+judged_cases = record { end = λ q p a b h. ap (λ (j : Judged). j.end) h; value = λ q p a b h. ap (λ (j : Judged). j.says) h }
 
 pub judging_is : (ps : List Parameter) (c : ℕ) (es : List Entry) (f : Tree) → fold_tree (judging true ps c es) f ≡ filter_says ps c es f
 unfolding fold_tree filter_says judging
@@ -63,7 +57,7 @@ module _ (ps : List Parameter) (c : ℕ) (es : List Entry) where
 -- ---- the filter in square brackets
 
 -- judging what is in the brackets for one occurrence
-pub judged_occurrence : (ps : List Parameter) (c o : ℕ) (es : List Entry) (g : Parsed) (j : Judged) → j ≡ answer_of Judged.Done Judged.Nothing (judging true ps c (chosen_of (Some o) es)) g
+pub judged_occurrence : (ps : List Parameter) (c o : ℕ) (es : List Entry) (g : Parsed) (j : Option Judged) → j ≡ answer_of judged (judging true ps c (chosen_of (Some o) es)) g
     → judged_says j ≡ parsed_says ps c (of_occurrence o es) g
 unfolding answer_of
 judged_occurrence ps c o es (parsed q f) j e = ap judged_says e ∙ judging_is ps c (chosen_of (Some o) es) f ∙ ap (λ (l : List Entry). filter_says ps c l f) (chosen_one o es)
@@ -106,7 +100,7 @@ member_is ps c es k p b q f t = go (lookup ps (enter ps c b) t.path)
     go None = refl
 
 -- as the code judges one occurrence
-pub chosen_judged : (ps : List Parameter) (c o : ℕ) (es : List Entry) (g : Parsed) (j : Judged) (u r : Bool) → j ≡ answer_of Judged.Done Judged.Nothing (judging true ps c (chosen_of (Some o) es)) g
+pub chosen_judged : (ps : List Parameter) (c o : ℕ) (es : List Entry) (g : Parsed) (j : Option Judged) (u r : Bool) → j ≡ answer_of judged (judging true ps c (chosen_of (Some o) es)) g
     → r ≡ judged_says j → u ≡ true → r ≡ (u && parsed_says ps c (of_occurrence o es) g)
 chosen_judged ps c o es g j u r e h i = rw i (h ∙ judged_occurrence ps c o es g j e)
 

@@ -7,6 +7,11 @@ use Rattle.syntax.specs.Tree.{bracketed}
 use Rattle.syntax.specs.Fold.{Fold}
 use Rattle.syntax.specs.declared.Connective.{Connective}
 use Rattle.judge.specs.Verdicts.{test_says, joined, filter_says}
+use Rattle.text_judge.specs.declared.Judged.{Judged}
+
+-- what was judged up to q, with what it says
+abbrev pub judged : ℕ → Bool → Judged
+judged q says = record { end = q; says = says }
 
 -- whether a verdict that is joined to a can change it
 abbrev pub undecided : Connective → Bool → Bool

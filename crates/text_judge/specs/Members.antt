@@ -18,9 +18,9 @@ abbrev pub parsed_says : List Parameter → ℕ → List Entry → Parsed → Bo
 parsed_says ps c es (parsed q f) = filter_says ps c es f
 parsed_says ps c es unparsed = false
 
-abbrev pub judged_says : Judged → Bool
-judged_says (Judged.Done q says) = says
-judged_says Judged.Nothing = false
+abbrev pub judged_says : Option Judged → Bool
+judged_says (Some j) = j.says
+judged_says None = false
 
 -- some of the entries es of a card with the entries all is among those that count, stands under the parameter, has a text that counts,
 -- and has an occurrence of which the filter says yes

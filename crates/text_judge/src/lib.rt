@@ -9,7 +9,7 @@ ghost use Rattle.syntax.specs.Placed.{Placed};
 ghost use Rattle.syntax.specs.Scan.{test_of};
 ghost use Rattle.syntax.specs.Grammar.{round};
 ghost use Rattle.syntax.specs.Reader.{item_at, filter_at, bracket_at, chosen_at};
-ghost use Rattle.text_judge.specs.Folds.{undecided, judging};
+ghost use Rattle.text_judge.specs.Folds.{judged, undecided, judging};
 ghost use Rattle.judge.specs.Sets.{of_occurrence, chosen_of};
 ghost use Rattle.judge.specs.Verdicts.{text_counts};
 ghost use Rattle.text_judge.specs.Members.{parsed_says, judged_says, some_chosen, member_says};
@@ -20,16 +20,13 @@ use filter::Spot;
 use judge::{Chosen, is_under, member_counts, member_truth, some_says, test_found, test_says};
 use kind::Meaning;
 use syntax::scan::skip;
-use syntax::{
-    Connective, FoundClose, FoundConnective, FoundTest, Head, RawTest, read_close, read_connective,
-    read_head, read_member,
-};
+use syntax::{Connective, Head, RawTest, read_close, read_connective, read_head, read_member};
 
-// Where a filter or an item that was judged ends, and what it says; or that there is none.
+// Where a filter or an item that was judged ends, and what it says.
 #[derive(Clone, Copy)]
-pub enum Judged {
-    Done(usize, bool),
-    Nothing,
+pub struct Judged {
+    pub end: usize,
+    pub says: bool,
 }
 
 // The verdict, or after not the opposite.
@@ -82,12 +79,12 @@ fn test_verdict(
 }
 
 // What was judged says, and no where it is no filter.
-fn judged_says(judged: Judged) -> bool
+fn judged_says(judged: Option<Judged>) -> bool
     ensures { result ≡ judged_says judged }
 {
     match judged {
-        Judged::Done(_, says) => says,
-        Judged::Nothing => false,
+        Some(judged) => judged.says,
+        None => false,
     }
 }
 
@@ -215,23 +212,19 @@ fn judge_round(
     chosen: Chosen,
     filter: &[u8],
     spot: Spot,
-) -> Judged
+) -> Option<Judged>
     requires sheet_value { read_sheet sheet.now ≡ Validity.WellFormed }
     requires card_value { read_card card.now ≡ Validity.WellFormed }
     requires filter_len_bound { length filter.now ≤ 1024 }
     requires at_in_bounds { spot.at ≤ length filter.now }
     requires close_value { spot.close ≡ round }
-    ensures { result ≡ answer_of Judged.Done Judged.Nothing (judging needed (parameters_of sheet.now) spot.bundle (chosen_of chosen (entries_of card.now))) (bracket_at spot.levels filter.now negate spot.at) }
+    ensures { result ≡ answer_of judged (judging needed (parameters_of sheet.now) spot.bundle (chosen_of chosen (entries_of card.now))) (bracket_at spot.levels filter.now negate spot.at) }
 {
-    let inner = judge_filter(needed, sheet, card, chosen, filter, spot);
-    let Judged::Done(end, says) = inner else {
-        return Judged::Nothing;
-    };
-    let closed = read_close(filter, b')', end);
-    let FoundClose::At(after) = closed else {
-        return Judged::Nothing;
-    };
-    Judged::Done(after, negated_if(negate, says))
+    let inner = judge_filter(needed, sheet, card, chosen, filter, spot)?;
+    Some(Judged {
+        end: read_close(filter, b')', inner.end)?,
+        says: negated_if(negate, inner.says),
+    })
 }
 
 // The test of a member at a spot, after the filter in square brackets of the bundle whose name ends at `until`; the levels are those in
@@ -245,13 +238,13 @@ fn judge_chosen(
     filter: &[u8],
     spot: Spot,
     until: usize,
-) -> Judged
+) -> Option<Judged>
     requires sheet_value { read_sheet sheet.now ≡ Validity.WellFormed }
     requires card_value { read_card card.now ≡ Validity.WellFormed }
     requires filter_len_bound { length filter.now ≤ 1024 }
     requires at_le_until { spot.at ≤ until }
     requires until_in_bounds { until < length filter.now }
-    ensures { result ≡ answer_of Judged.Done Judged.Nothing (judging needed (parameters_of sheet.now) spot.bundle (chosen_of chosen (entries_of card.now))) (chosen_at spot.levels filter.now spot.close spot.at until) }
+    ensures { result ≡ answer_of judged (judging needed (parameters_of sheet.now) spot.bundle (chosen_of chosen (entries_of card.now))) (chosen_at spot.levels filter.now spot.close spot.at until) }
 {
     let at = spot.at;
     let levels = spot.levels;
@@ -262,17 +255,12 @@ fn judge_chosen(
         bundle: sheet::enter(sheet, spot.bundle, &filter[at..until]),
     };
     // only where the brackets end is asked: their filter is judged for each entry
-    let inner = judge_filter(false, sheet, card, chosen, filter, inside);
-    let Judged::Done(end, _) = inner else {
-        return Judged::Nothing;
-    };
-    let member = read_member(filter, spot.close, end);
-    let FoundTest::Test(test) = member else {
-        return Judged::Nothing;
-    };
-    let says = member_verdict(needed, sheet, card, chosen, filter, inside, test);
-    let value = test.value;
-    Judged::Done(value.next, says)
+    let inner = judge_filter(false, sheet, card, chosen, filter, inside)?;
+    let test = read_member(filter, spot.close, inner.end)?;
+    Some(Judged {
+        end: test.value.next,
+        says: member_verdict(needed, sheet, card, chosen, filter, inside, test),
+    })
 }
 
 // The item at a spot.
@@ -284,27 +272,26 @@ fn judge_item(
     chosen: Chosen,
     filter: &[u8],
     spot: Spot,
-) -> Judged
+) -> Option<Judged>
     requires sheet_value { read_sheet sheet.now ≡ Validity.WellFormed }
     requires card_value { read_card card.now ≡ Validity.WellFormed }
     requires filter_len_bound { length filter.now ≤ 1024 }
     requires at_in_bounds { spot.at ≤ length filter.now }
-    ensures { result ≡ answer_of Judged.Done Judged.Nothing (judging needed (parameters_of sheet.now) spot.bundle (chosen_of chosen (entries_of card.now))) (item_at spot.levels filter.now spot.close spot.at) }
+    ensures { result ≡ answer_of judged (judging needed (parameters_of sheet.now) spot.bundle (chosen_of chosen (entries_of card.now))) (item_at spot.levels filter.now spot.close spot.at) }
 {
     let at = spot.at;
     let levels = spot.levels;
     let close = spot.close;
     let bundle = spot.bundle;
-    let head = read_head(filter, close, at);
+    let head = read_head(filter, close, at)?;
     match head {
-        Head::Test(test) => {
-            let says = test_verdict(needed, sheet, bundle, card, chosen, filter, test);
-            let value = test.value;
-            Judged::Done(value.next, says)
-        }
+        Head::Test(test) => Some(Judged {
+            end: test.value.next,
+            says: test_verdict(needed, sheet, bundle, card, chosen, filter, test),
+        }),
         Head::Open(next, negate) => {
             if levels == 0 {
-                return Judged::Nothing;
+                return None;
             }
             let inside = Spot {
                 at: next,
@@ -316,7 +303,7 @@ fn judge_item(
         }
         Head::Choice(until) => {
             if levels == 0 {
-                return Judged::Nothing;
+                return None;
             }
             let member = Spot {
                 at,
@@ -326,7 +313,6 @@ fn judge_item(
             };
             judge_chosen(needed, sheet, card, chosen, filter, member, until)
         }
-        Head::Nothing => Judged::Nothing,
     }
 }
 
@@ -340,44 +326,25 @@ pub fn judge_filter(
     chosen: Chosen,
     filter: &[u8],
     spot: Spot,
-) -> Judged
+) -> Option<Judged>
     requires sheet_value { read_sheet sheet.now ≡ Validity.WellFormed }
     requires card_value { read_card card.now ≡ Validity.WellFormed }
     requires filter_len_bound { length filter.now ≤ 1024 }
     requires at_in_bounds { spot.at ≤ length filter.now }
-    ensures { result ≡ answer_of Judged.Done Judged.Nothing (judging needed (parameters_of sheet.now) spot.bundle (chosen_of chosen (entries_of card.now))) (filter_at spot.levels filter.now spot.close spot.at) }
+    ensures { result ≡ answer_of judged (judging needed (parameters_of sheet.now) spot.bundle (chosen_of chosen (entries_of card.now))) (filter_at spot.levels filter.now spot.close spot.at) }
 {
-    let first = judge_item(needed, sheet, card, chosen, filter, spot);
-    let Judged::Done(first_end, first_says) = first else {
-        return Judged::Nothing;
-    };
-    let mut end = first_end;
-    let mut says = first_says;
-    loop {
-        let found = read_connective(filter, end);
-        match found {
-            FoundConnective::Next(next, connective) => {
-                let asked = item_needed(needed, connective, says);
-                let next_spot = Spot {
-                    at: next,
-                    levels: spot.levels,
-                    close: spot.close,
-                    bundle: spot.bundle,
-                };
-                let item = judge_item(asked, sheet, card, chosen, filter, next_spot);
-                match item {
-                    Judged::Done(item_end, item_says) => {
-                        end = item_end;
-                        says = after_item(asked, says, item_says);
-                    }
-                    Judged::Nothing => {
-                        return Judged::Nothing;
-                    }
-                }
-            }
-            FoundConnective::Nothing => {
-                return Judged::Done(end, says);
-            }
-        }
+    let mut judged = judge_item(needed, sheet, card, chosen, filter, spot)?;
+    while let Some(link) = read_connective(filter, judged.end) {
+        let asked = item_needed(needed, link.connective, judged.says);
+        let next = Spot {
+            at: link.next,
+            ..spot
+        };
+        let item = judge_item(asked, sheet, card, chosen, filter, next)?;
+        judged = Judged {
+            end: item.end,
+            says: after_item(asked, judged.says, item.says),
+        };
     }
+    Some(judged)
 }

@@ -1,7 +1,6 @@
 -- `checking::check_text` meets its contract: the tests are those of the definition. Assumes nothing.
 use borrow.Author.Rules.{rules}
-use Rattle.filter.specs.Folds.{reading}
-use Rattle.filter.specs.declared.Walked.{Walked}
+use Rattle.filter.specs.Folds.{walked, reading}
 use Rattle.filter.proofs.Walk.{top_within, filter_ahead}
 use Rattle.filter.proofs.Reading.{walked_cases}
 use Rattle.checking.proofs.Checking.{text_empty, text_long, text_nothing, text_trails}
@@ -13,14 +12,14 @@ returns-then-filter-eq0 c = search (text_empty, rules)
 pub returns-then-filter-gt1024 : goal.returns-then-filter-gt1024
 returns-then-filter-gt1024 c = search (text_long, rules)
 
-pub check_filter-walked-requires : goal.check_filter-walked-requires
-check_filter-walked-requires c = search (top_within, rules)
+pub check_filter-requires : goal.check_filter-requires
+check_filter-requires c = search (top_within, rules)
 
 pub skip-after-requires : goal.skip-after-requires
-skip-after-requires c = (filter_ahead Walked.Done Walked.Nothing walked_cases (reading _ _) _ _ _ _ _ _ _ c.check_filter-walked.ensures c.in-Done.is).1
+skip-after-requires c = (filter_ahead walked walked_cases (reading _ _) _ _ _ _ _ _ _ c.check_filter.ensures c.in-Some.is).1
 
 pub returns-then-after-filter : goal.returns-then-after-filter
 returns-then-after-filter c = search (text_trails, rules)
 
-pub returns-in-Nothing : goal.returns-in-Nothing
-returns-in-Nothing c = search (text_nothing, rules)
+pub returns-in_default : goal.returns-in_default
+returns-in_default c = search (text_nothing, rules)

@@ -9,8 +9,8 @@ returns-then-filter-eq0 c = search (fill_empty, rules)
 pub returns-then-filter-gt1024 : goal.returns-then-filter-gt1024
 returns-then-filter-gt1024 c = search (fill_long, rules)
 
-pub write_filter-written-requires-clause-room : goal.write_filter-written-requires-clause-room
-write_filter-written-requires-clause-room c = search (fill_room, rules)
+pub write_filter-requires-clause-room : goal.write_filter-requires-clause-room
+write_filter-requires-clause-room c = search (fill_room, rules)
 
 pub skip-after-requires : goal.skip-after-requires
 skip-after-requires c = search (fill_within, rules)
@@ -27,5 +27,5 @@ returns-in-Ok c = search (fill_done, rules)
 pub returns-in-Err : goal.returns-in-Err
 returns-in-Err c = search (fill_fault, rules)
 
-pub returns-in-Nothing : goal.returns-in-Nothing
-returns-in-Nothing c = search (fill_nothing, rules)
+pub returns-in_default : goal.returns-in_default
+returns-in_default c = search (fill_nothing, rules)

@@ -3,8 +3,8 @@ use borrow.Author.Rules.{rules}
 use Rattle.syntax.proofs.Structure.{bracket_choice, bracket_open}
 use Rattle.syntax.proofs.read_bracket.Goals as goal
 
-pub returns-in-At : goal.returns-in-At
-returns-in-At c = search (bracket_choice, rules)
+pub returns-in-Some : goal.returns-in-Some
+returns-in-Some c = search (bracket_choice, rules)
 
-pub returns-in-Nothing : goal.returns-in-Nothing
-returns-in-Nothing c = search (bracket_open, rules)
+pub returns-in-None : goal.returns-in-None
+returns-in-None c = search (bracket_open, rules)

@@ -7,8 +7,8 @@ use Rattle.syntax.proofs.read_member.Goals as goal
 pub read_dotted-requires : goal.read_dotted-requires
 read_dotted-requires c = search (close_within, rules)
 
-pub returns-in-At : goal.returns-in-At
-returns-in-At c = search (after_close_lem, rules)
+pub returns : goal.returns
+returns c = search (after_close_lem, rules)
 
-pub returns-in-Nothing : goal.returns-in-Nothing
-returns-in-Nothing c = search (after_nothing, rules)
+pub returns-in_err-after : goal.returns-in_err-after
+returns-in_err-after c = search (after_nothing, rules)

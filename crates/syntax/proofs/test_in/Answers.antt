@@ -3,5 +3,5 @@ use borrow.Author.Rules.{rules}
 use Rattle.syntax.proofs.Structure.{in_test}
 use Rattle.syntax.proofs.test_in.Goals as goal
 
-pub returns-in-Test : goal.returns-in-Test
-returns-in-Test c = search (in_test, rules)
+pub returns-in-Some-Test : goal.returns-in-Some-Test
+returns-in-Some-Test c = search (in_test, rules)

@@ -4,8 +4,7 @@ use Prim.Native.Nat.{◌+◌, ◌*◌, ◌-◌}
 use lib.ListN.{length}
 use Rattle.sheet.specs.Sheet.{parameters_of}
 use Rattle.card.specs.Card.{entry, entries_of}
-use Rattle.text_judge.specs.Folds.{judging}
-use Rattle.text_judge.specs.declared.Judged.{Judged}
+use Rattle.text_judge.specs.Folds.{judged, judging}
 use Rattle.filter.proofs.Walk.{Chain}
 use Rattle.text_judge.proofs.Judging.{judged_cases}
 use Rattle.block.proofs.Invariants.{Visited}
@@ -36,11 +35,11 @@ decreases-member_verdict l = 8 * (length l.filter.now - l.spot.at) + 5
 abbrev pub decreases-some_chosen : goal.decreases-some_chosen
 decreases-some_chosen l = 8 * (length l.filter.now - l.spot.at) + 4
 
-abbrev pub invariant-judge_filter-loop-next : goal.invariant-judge_filter-loop-next
-invariant-judge_filter-loop-next l = Chain Judged.Done Judged.Nothing judged_cases (judging l.needed (parameters_of l.sheet) l.spot.bundle (chosen_of l.chosen (entries_of l.card))) l.filter l.spot.close l.spot.levels l.spot.at l.end l.says
+abbrev pub invariant-judge_filter-loop-link : goal.invariant-judge_filter-loop-link
+invariant-judge_filter-loop-link l = Chain judged judged_cases (judging l.needed (parameters_of l.sheet) l.spot.bundle (chosen_of l.chosen (entries_of l.card))) l.filter l.spot.close l.spot.levels l.spot.at l.judged.end l.judged.says
 
-abbrev pub decreases-judge_filter-loop-next : goal.decreases-judge_filter-loop-next
-decreases-judge_filter-loop-next l = length l.filter - l.end
+abbrev pub decreases-judge_filter-loop-link : goal.decreases-judge_filter-loop-link
+decreases-judge_filter-loop-link l = length l.filter - l.judged.end
 
 abbrev pub invariant-some_chosen-loop-left : goal.invariant-some_chosen-loop-left
 invariant-some_chosen-loop-left l = Visited entry (some_chosen (parameters_of l.sheet) l.spot.bundle (entries_of l.card) l.chosen (filter_at l.spot.levels l.filter l.spot.close l.spot.at) l.index l.meaning (test_of l.filter l.test).value) (some_chosen (parameters_of l.sheet) l.spot.bundle (entries_of l.card) l.chosen (filter_at l.spot.levels l.filter l.spot.close l.spot.at) l.index l.meaning (test_of l.filter l.test).value (entries_of l.card)) l.card l.at l.left

@@ -3,8 +3,7 @@
 use Prim.Native.Nat.{◌+◌, ◌*◌, ◌-◌}
 use lib.ListN.{length}
 use Rattle.sheet.specs.Sheet.{parameters_of}
-use Rattle.filter.specs.Folds.{reading}
-use Rattle.filter.specs.declared.Walked.{Walked}
+use Rattle.filter.specs.Folds.{walked, reading}
 use Rattle.filter.proofs.Walk.{Chain}
 use Rattle.filter.proofs.Reading.{walked_cases}
 use Rattle.filter.proofs.check.+checking.Given as goal
@@ -21,8 +20,8 @@ decreases-check_item l = 4 * (length l.filter.now - l.spot.at) + 1
 abbrev pub decreases-check_round : goal.decreases-check_round
 decreases-check_round l = 4 * (length l.filter.now - l.spot.at) + 3
 
-abbrev pub invariant-check_filter-loop-next : goal.invariant-check_filter-loop-next
-invariant-check_filter-loop-next l = Chain Walked.Done Walked.Nothing walked_cases (reading (parameters_of l.sheet) l.spot.bundle) l.filter l.spot.close l.spot.levels l.spot.at l.end l.summary
+abbrev pub invariant-check_filter-loop-link : goal.invariant-check_filter-loop-link
+invariant-check_filter-loop-link l = Chain walked walked_cases (reading (parameters_of l.sheet) l.spot.bundle) l.filter l.spot.close l.spot.levels l.spot.at l.read.end l.read.summary
 
-abbrev pub decreases-check_filter-loop-next : goal.decreases-check_filter-loop-next
-decreases-check_filter-loop-next l = length l.filter - l.end
+abbrev pub decreases-check_filter-loop-link : goal.decreases-check_filter-loop-link
+decreases-check_filter-loop-link l = length l.filter - l.read.end

@@ -4,11 +4,11 @@ use Rattle.filter.proofs.Walk.{top_within}
 use Rattle.one_card.proofs.Judging.{says_done, says_nothing}
 use Rattle.one_card.proofs.by_text.text_says.Goals as goal
 
-pub judge_filter-judged-requires : goal.judge_filter-judged-requires
-judge_filter-judged-requires c = search (top_within, rules)
+pub judge_filter-requires : goal.judge_filter-requires
+judge_filter-requires c = search (top_within, rules)
 
-pub returns-in-Done : goal.returns-in-Done
-returns-in-Done c = search (says_done, rules)
+pub returns-in-Some : goal.returns-in-Some
+returns-in-Some c = search (says_done, rules)
 
-pub returns-in-Nothing : goal.returns-in-Nothing
-returns-in-Nothing c = search (says_nothing, rules)
+pub returns-in-None : goal.returns-in-None
+returns-in-None c = search (says_nothing, rules)

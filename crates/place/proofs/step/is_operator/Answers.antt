@@ -1,10 +1,7 @@
--- `place::step::is_operator` meets its contract: each answer is a case of the definition. Assumes nothing.
-use Rattle.place.proofs.Stepping.{operator_is, operator_none}
+-- `place::step::is_operator` meets its contract: an operator is found where the definition has one. Assumes nothing.
+use Rattle.place.proofs.Stepping.{operator_is}
 use borrow.Author.Rules.{rules}
 use Rattle.place.proofs.step.is_operator.Goals as goal
 
-pub returns-in-Is : goal.returns-in-Is
-returns-in-Is c = search (operator_is, rules)
-
-pub returns-in-Nothing : goal.returns-in-Nothing
-returns-in-Nothing c = search (operator_none, rules)
+pub returns : goal.returns
+returns c = search (operator_is, rules)

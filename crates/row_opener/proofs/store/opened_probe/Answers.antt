@@ -11,8 +11,8 @@ returns-then-probe-filter c = search (for_outside, not-false, rules)
 pub opened_text-requires : goal.opened_text-requires
 opened_text-requires c = search (value-at-placed, rules)
 
-pub returns-in-Value : goal.returns-in-Value
-returns-in-Value c = search (for_value, rules)
+pub returns-in-Some : goal.returns-in-Some
+returns-in-Some c = search (for_value, rules)
 
-pub returns-in-Nothing : goal.returns-in-Nothing
-returns-in-Nothing c = search (for_nothing, rules)
+pub returns-in-None : goal.returns-in-None
+returns-in-None c = search (for_nothing, rules)

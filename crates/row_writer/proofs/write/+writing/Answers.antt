@@ -9,23 +9,23 @@ use Rattle.row_writer.proofs.Writing.{test_room, wrote_choice_deep, wrote_chosen
 use Rattle.row_writer.proofs.Writing.{chosen_room, chosen-cells, chosen_tests}
 use Rattle.row_writer.proofs.write.+writing.Goals as goal
 
-pub write_chosen-write_filter-inner-requires : goal.write_chosen-write_filter-inner-requires
-write_chosen-write_filter-inner-requires t c = (search (inside-less, rules), (search rules, search (inside_room, rules)))
+pub write_chosen-write_filter-requires : goal.write_chosen-write_filter-requires
+write_chosen-write_filter-requires t c = (search (inside-less, rules), (search rules, search (inside_room, rules)))
 
-pub write_chosen-returns-in_default : goal.write_chosen-returns-in_default
-write_chosen-returns-in_default t c = search (chosen_no_filter, rules)
+pub write_chosen-returns-in_err-inner : goal.write_chosen-returns-in_err-inner
+write_chosen-returns-in_err-inner t c = rw c.from_residual.ensures (chosen_no_filter _ _ _ _ _ _ c.inside_of-inside.ensures _ _ _ c.write_filter.ensures c.in_err-inner.was)
 
 pub write_chosen-returns : goal.write_chosen-returns
-write_chosen-returns t c = search (chosen-member, rules)
+write_chosen-returns t c = chosen-member _ _ _ _ _ _ c.inside_of-inside.ensures _ _ _ c.write_filter.ensures _ c.in_ok-inner.was _ _ c.write_member.ensures
 
-pub write_filter-returns-in_default : goal.write_filter-returns-in_default
-write_filter-returns-in_default t c = search (filter_no_item, rules)
+pub write_filter-returns-in_err-first : goal.write_filter-returns-in_err-first
+write_filter-returns-in_err-first t c = rw c.from_residual.ensures (filter_no_item _ _ _ _ _ _ _ _ _ _ c.write_item.ensures c.in_err-first.was)
 
 pub write_filter-write_rest-requires : goal.write_filter-write_rest-requires
 write_filter-write_rest-requires t c = (search rules, (search rules, search (chain_starts, rules)))
 
 pub write_filter-returns : goal.write_filter-returns
-write_filter-returns t c = search (filter_rest, rules)
+write_filter-returns t c = filter_rest _ _ _ _ _ _ _ _ _ _ c.write_item.ensures _ c.in_ok-first.was c.requires.room _ _ c.write_rest.ensures
 
 pub write_item-write_test-requires-clause-placed : goal.write_item-write_test-requires-clause-placed
 write_item-write_test-requires-clause-placed t c = search (test_in_place, rules)
@@ -34,70 +34,70 @@ pub write_item-write_test-requires-clause-read : goal.write_item-write_test-requ
 write_item-write_test-requires-clause-read t c = search (head_read, rules)
 
 pub write_item-write_test-requires-clause-row_in_bounds : goal.write_item-write_test-requires-clause-row_in_bounds
-write_item-write_test-requires-clause-row_in_bounds t c = search (test_room, rules)
+write_item-write_test-requires-clause-row_in_bounds t c = test_room _ _ _ _ _ _ _ _ c.read_head.ensures c.in_ok-head.was c.in-Test.is c.requires.room
 
 pub write_item-returns-then-levels-eq0 : goal.write_item-returns-then-levels-eq0
-write_item-returns-then-levels-eq0 t c = search (wrote_deep, rules)
+write_item-returns-then-levels-eq0 t c = wrote_deep _ _ _ _ _ _ _ _ c.read_head.ensures _ c.in_ok-head.was _ _ c.in-Open.is _ c.if-levels-eq0.true
 
 pub write_item-write_round-requires : goal.write_item-write_round-requires
-write_item-write_round-requires t c = (search (open_less, rules), (search rules, (search (open_room, rules), (search rules, search (open_low, rules)))))
+write_item-write_round-requires t c = (search (open_less _ _ _ _ _ _ c.read_head.ensures c.requires.room _ c.in_ok-head.was _ _ c.in-Open.is, rules), (search rules, (open_room _ _ _ _ _ _ c.read_head.ensures c.requires.room _ c.in_ok-head.was _ _ c.in-Open.is, (search rules, open_low _ _ _ _ _ _ c.read_head.ensures c.requires.room _ c.in_ok-head.was _ _ c.in-Open.is))))
 
 pub write_item-returns-then-levels-eq0-2 : goal.write_item-returns-then-levels-eq0-2
-write_item-returns-then-levels-eq0-2 t c = search (wrote_choice_deep, rules)
+write_item-returns-then-levels-eq0-2 t c = wrote_choice_deep _ _ _ _ _ _ _ _ c.read_head.ensures _ c.in_ok-head.was _ c.in-Choice.is _ c.if-levels-eq0-2.true
 
 pub write_item-write_chosen-requires : goal.write_item-write_chosen-requires
-write_item-write_chosen-requires t c = (search rules, (search rules, (search rules, (search (choice_low, rules), search (choice_within, rules)))))
+write_item-write_chosen-requires t c = (search rules, (search rules, (search rules, (choice_low _ _ _ _ _ _ c.read_head.ensures c.requires.room _ c.in_ok-head.was _ c.in-Choice.is, choice_within _ _ _ _ _ _ c.read_head.ensures c.requires.room _ c.in_ok-head.was _ c.in-Choice.is))))
 
 pub write_item-returns-in-Test : goal.write_item-returns-in-Test
-write_item-returns-in-Test t c = search (wrote_test, rules)
+write_item-returns-in-Test t c = wrote_test _ _ _ _ _ _ _ _ c.read_head.ensures _ _ _ _ _ c.in_ok-head.was c.in-Test.is c.write_test.ensures
 
 pub write_item-returns-else-levels-eq0 : goal.write_item-returns-else-levels-eq0
-write_item-returns-else-levels-eq0 t c = search (wrote_opened, rules)
+write_item-returns-else-levels-eq0 t c = wrote_opened _ _ _ _ _ _ _ _ c.read_head.ensures _ c.in_ok-head.was _ _ c.in-Open.is _ _ _ c.if-levels-eq0.false c.write_round.ensures
 
 pub write_item-returns-else-levels-eq0-2 : goal.write_item-returns-else-levels-eq0-2
-write_item-returns-else-levels-eq0-2 t c = search (wrote_chosen, rules)
+write_item-returns-else-levels-eq0-2 t c = wrote_chosen _ _ _ _ _ _ _ _ c.read_head.ensures _ c.in_ok-head.was _ c.in-Choice.is _ _ _ c.if-levels-eq0-2.false c.write_chosen.ensures
 
-pub write_item-returns-in-Nothing : goal.write_item-returns-in-Nothing
-write_item-returns-in-Nothing t c = search (wrote_nothing, rules)
+pub write_item-returns-in_err-head : goal.write_item-returns-in_err-head
+write_item-returns-in_err-head t c = rw c.from_residual.ensures (wrote_nothing _ _ _ _ _ _ _ _ c.read_head.ensures _ c.in_err-head.was)
 
-pub write_rest-write_item-item-requires : goal.write_rest-write_item-item-requires
-write_rest-write_item-item-requires t c = (search (chain_falls, rules), (search rules, search (chain_room, rules)))
+pub write_rest-write_item-requires : goal.write_rest-write_item-requires
+write_rest-write_item-requires t c = (search (chain_falls, rules), (search rules, search (chain_room, rules)))
 
-pub write_rest-write_join-gathered-requires : goal.write_rest-write_join-gathered-requires
-write_rest-write_join-gathered-requires t c = search (chain_joins, rules)
+pub write_rest-write_join-requires : goal.write_rest-write_join-requires
+write_rest-write_join-requires t c = chain_joins _ _ _ _ _ _ _ _ _ _ _ c.loop-link.invariant _ c.read_connective.ensures _ c.in-Some.is _ _ c.write_item.ensures _ c.in_ok-item.was
 
-pub write_rest-loop-next-smaller : goal.write_rest-loop-next-smaller
-write_rest-loop-next-smaller t c = search (chain_less, rules)
+pub write_rest-loop-link-smaller : goal.write_rest-loop-link-smaller
+write_rest-loop-link-smaller t c = chain_less _ _ _ _ _ _ _ _ _ _ _ c.loop-link.invariant _ c.read_connective.ensures _ c.in-Some.is _ _ c.write_item.ensures _ c.in_ok-item.was
 
-pub write_rest-loop-next-preserved : goal.write_rest-loop-next-preserved
-write_rest-loop-next-preserved t c = search (chain_takes, rules)
+pub write_rest-loop-link-preserved : goal.write_rest-loop-link-preserved
+write_rest-loop-link-preserved t c = chain_takes _ _ _ _ _ _ _ _ _ _ _ c.loop-link.invariant _ c.read_connective.ensures _ c.in-Some.is _ _ c.write_item.ensures _ c.in_ok-item.was _ _ c.write_join.ensures
 
-pub write_rest-returns-in-Nothing-item : goal.write_rest-returns-in-Nothing-item
-write_rest-returns-in-Nothing-item t c = search (chain_no_item, rules)
+pub write_rest-returns-in_err-item : goal.write_rest-returns-in_err-item
+write_rest-returns-in_err-item t c = rw c.from_residual.ensures (chain_no_item _ _ _ _ _ _ _ _ _ _ _ c.loop-link.invariant _ c.read_connective.ensures _ c.in-Some.is _ _ c.write_item.ensures c.in_err-item.was)
 
-pub write_rest-returns-in-Nothing : goal.write_rest-returns-in-Nothing
-write_rest-returns-in-Nothing t c = search (chain_ends, rules)
+pub write_rest-returns : goal.write_rest-returns
+write_rest-returns t c = chain_ends _ _ _ _ _ _ _ _ _ _ _ c.loop-link.invariant _ c.read_connective.ensures c.in_default.is
 
-pub write_round-returns-in_default : goal.write_round-returns-in_default
-write_round-returns-in_default t c = search (round_no_filter, rules)
+pub write_round-returns-in_err-inner : goal.write_round-returns-in_err-inner
+write_round-returns-in_err-inner t c = rw c.from_residual.ensures (round_no_filter _ _ _ _ _ _ _ c.requires.close_value _ _ _ _ c.write_filter.ensures c.in_err-inner.was)
 
 pub write_round-close_round-requires-clause-end_in_bounds : goal.write_round-close_round-requires-clause-end_in_bounds
-write_round-close_round-requires-clause-end_in_bounds t c = search (filter_within, rules)
+write_round-close_round-requires-clause-end_in_bounds t c = filter_within _ _ _ _ _ _ _ _ _ _ _ c.write_filter.ensures c.in_ok-inner.was
 
 pub write_round-close_round-requires-clause-cells_in_bounds : goal.write_round-close_round-requires-clause-cells_in_bounds
-write_round-close_round-requires-clause-cells_in_bounds t c = search (round_room, rules)
+write_round-close_round-requires-clause-cells_in_bounds t c = round_room _ _ _ _ _ _ _ _ _ _ _ c.write_filter.ensures c.in_ok-inner.was c.requires.room c.requires.row_lt_at
 
 pub write_round-returns : goal.write_round-returns
-write_round-returns t c = search (round-closed, rules)
+write_round-returns t c = round-closed _ _ _ _ _ _ _ c.requires.close_value _ _ _ _ c.write_filter.ensures _ c.in_ok-inner.was _ _ c.close_round.ensures
 
 pub write_chosen-write_member-requires-clause-end_in_bounds : goal.write_chosen-write_member-requires-clause-end_in_bounds
-write_chosen-write_member-requires-clause-end_in_bounds t c = search (filter_within, rules)
+write_chosen-write_member-requires-clause-end_in_bounds t c = filter_within _ _ _ _ _ _ _ _ _ _ _ c.write_filter.ensures c.in_ok-inner.was
 
 pub write_chosen-write_member-requires-clause-cells_in_bounds : goal.write_chosen-write_member-requires-clause-cells_in_bounds
-write_chosen-write_member-requires-clause-cells_in_bounds t c = search (chosen_room, rules)
+write_chosen-write_member-requires-clause-cells_in_bounds t c = chosen_room _ _ _ _ _ _ c.inside_of-inside.ensures _ _ _ c.write_filter.ensures _ c.in_ok-inner.was c.requires.room c.requires.at_lt_until
 
 pub write_chosen-write_member-requires-clause-cells_bound : goal.write_chosen-write_member-requires-clause-cells_bound
-write_chosen-write_member-requires-clause-cells_bound t c = search (chosen-cells, rules)
+write_chosen-write_member-requires-clause-cells_bound t c = chosen-cells _ _ _ _ _ _ c.inside_of-inside.ensures _ _ _ c.write_filter.ensures _ c.in_ok-inner.was c.requires.room c.requires.at_lt_until
 
 pub write_chosen-write_member-requires-clause-tests_bound : goal.write_chosen-write_member-requires-clause-tests_bound
-write_chosen-write_member-requires-clause-tests_bound t c = search (chosen_tests, rules)
+write_chosen-write_member-requires-clause-tests_bound t c = chosen_tests _ _ _ _ _ _ c.inside_of-inside.ensures _ _ _ c.write_filter.ensures _ c.in_ok-inner.was c.requires.room c.requires.at_lt_until

@@ -25,8 +25,8 @@ decreases-write_rest l = 4 * (length l.filter.now - l.spot.at) + 1
 abbrev pub decreases-write_round : goal.decreases-write_round
 decreases-write_round l = 4 * (length l.filter.now - l.spot.at) + 3
 
-abbrev pub invariant-write_rest-loop-next : goal.invariant-write_rest-loop-next
-invariant-write_rest-loop-next l = ChainedAt l.sheet l.filter l.spot l.row l.initial.rows l.end l.gathered l.rows
+abbrev pub invariant-write_rest-loop-link : goal.invariant-write_rest-loop-link
+invariant-write_rest-loop-link l = ChainedAt l.sheet l.filter l.spot l.row l.initial.rows l.read.end l.read.outcome l.rows
 
-abbrev pub decreases-write_rest-loop-next : goal.decreases-write_rest-loop-next
-decreases-write_rest-loop-next l = length l.filter - l.end
+abbrev pub decreases-write_rest-loop-link : goal.decreases-write_rest-loop-link
+decreases-write_rest-loop-link l = length l.filter - l.read.end

@@ -3,8 +3,8 @@ use borrow.Author.Rules.{rules}
 use Rattle.row_writer.proofs.Writing.{close_none, close_found, close_not}
 use Rattle.row_writer.proofs.write.close_round.Goals as goal
 
-pub returns-in_default : goal.returns-in_default
-returns-in_default c = search (close_none, rules)
+pub returns-in_err-end : goal.returns-in_err-end
+returns-in_err-end c = search (close_none, rules)
 
 pub returns-then-negate : goal.returns-then-negate
 returns-then-negate c = search (close_not, rules)

@@ -5,8 +5,8 @@ use Rattle.row_writer.proofs.Numbers.{member-read}
 use Rattle.row_writer.proofs.Writing.{member_none, member-found}
 use Rattle.row_writer.proofs.write.write_member.Goals as goal
 
-pub returns-in_default : goal.returns-in_default
-returns-in_default c = search (member_none, rules)
+pub returns-in_err-test : goal.returns-in_err-test
+returns-in_err-test c = search (member_none, rules)
 
 pub write_pair-requires-clause-placed : goal.write_pair-requires-clause-placed
 write_pair-requires-clause-placed c = search (member_in_place, rules)

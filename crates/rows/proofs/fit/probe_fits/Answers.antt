@@ -14,8 +14,8 @@ returns-then-probe-filter c = search (probe_outside, not-false, rules)
 pub value_fits-requires : goal.value_fits-requires
 value_fits-requires c = search (value-at-placed, rules)
 
-pub returns-in-Value : goal.returns-in-Value
-returns-in-Value c = search (probe_value, not-false, rules)
+pub returns-in-Some : goal.returns-in-Some
+returns-in-Some c = search (probe_value, not-false, rules)
 
-pub returns-in-Nothing : goal.returns-in-Nothing
-returns-in-Nothing c = search (probe_no_value, not-false, rules)
+pub returns-in-None : goal.returns-in-None
+returns-in-None c = search (probe_no_value, not-false, rules)

@@ -4,6 +4,7 @@ use Rattle.rows.proofs.Cells.{test_index}
 use Rattle.rows.proofs.Reading.{part_few, tests_few, levels_few, brackets_few, hand_few_tests, hand_few_levels, hand_end, hand_test, hand_bracket, hand_unknown, hand_not, hand_large, hand_nothing, hand_join}
 use Rattle.rows.proofs.Reading.{first_misfits, first_fits, first-inside, first_bracket, first_not, first_connect, first_unknown, brackets_short, brackets_large, brackets_no_member, brackets_nothing, brackets_found, no_calls, no_rows, began_hand, began_none, began_read}
 use borrow.Author.Rules.{rules}
+use mathlib.Core.Path.{◌∙◌}
 use Rattle.rows.proofs.shapes.+shapes.Goals as goal
 
 pub shape_in_brackets-returns-then-rows-lt2 : goal.shape_in_brackets-returns-then-rows-lt2
@@ -19,16 +20,16 @@ pub shape_in_brackets-shape_of-requires : goal.shape_in_brackets-shape_of-requir
 shape_in_brackets-shape_of-requires t c = (omega arith, (search rules, (search rules, (search rules, search (part_few, rules)))))
 
 pub shape_in_brackets-deeper-requires-clause-tests_bound : goal.shape_in_brackets-deeper-requires-clause-tests_bound
-shape_in_brackets-deeper-requires-clause-tests_bound t c = search (tests_few, rules)
+shape_in_brackets-deeper-requires-clause-tests_bound t c = tests_few _ _ _ c.requires.rows_len_bound _ _ _ c.shape_of.ensures _ c.in_ok-inner.was
 
 pub shape_in_brackets-deeper-requires-clause-chain_bound : goal.shape_in_brackets-deeper-requires-clause-chain_bound
-shape_in_brackets-deeper-requires-clause-chain_bound t c = search (levels_few, rules)
+shape_in_brackets-deeper-requires-clause-chain_bound t c = levels_few _ _ _ c.requires.rows_len_bound _ _ _ c.shape_of.ensures _ c.in_ok-inner.was
 
-pub shape_in_brackets-returns-in-Shape : goal.shape_in_brackets-returns-in-Shape
-shape_in_brackets-returns-in-Shape t c = search (brackets_found, rules)
+pub shape_in_brackets-returns : goal.shape_in_brackets-returns
+shape_in_brackets-returns t c = brackets_found _ _ _ _ _ _ c.if-rows-lt2.false _ c.member_of-bundle.ensures c.if-bundle-eq0.false c.if-size-rows.false _ c.shape_of.ensures _ _ c.in_ok-inner.was c.deeper.ensures
 
-pub shape_in_brackets-returns-in-Nothing : goal.shape_in_brackets-returns-in-Nothing
-shape_in_brackets-returns-in-Nothing t c = search (brackets_nothing, rules)
+pub shape_in_brackets-returns-in_err-inner : goal.shape_in_brackets-returns-in_err-inner
+shape_in_brackets-returns-in_err-inner t c = search (brackets_nothing, rules)
 
 pub shape_of-returns-then-calls-eq0 : goal.shape_of-returns-then-calls-eq0
 shape_of-returns-then-calls-eq0 t c = search (no_calls, rules)
@@ -42,11 +43,11 @@ shape_of-shape_of_first-requires t c = (omega arith, (search rules, (search rule
 pub shape_of-shape_with-requires : goal.shape_of-shape_with-requires
 shape_of-shape_with-requires t c = (omega arith, (search rules, (search rules, (search rules, (search rules, search (began_hand, rules))))))
 
-pub shape_of-returns-in-At : goal.shape_of-returns-in-At
-shape_of-returns-in-At t c = search (began_read, rules)
+pub shape_of-returns : goal.shape_of-returns
+shape_of-returns t c = search (began_read, rules)
 
-pub shape_of-returns-in-Nothing : goal.shape_of-returns-in-Nothing
-shape_of-returns-in-Nothing t c = search (began_none, rules)
+pub shape_of-returns-in_err-begun : goal.shape_of-returns-in_err-begun
+shape_of-returns-in_err-begun t c = search (began_none, rules)
 
 pub shape_of_first-stands-requires-clause-index_bound : goal.shape_of_first-stands-requires-clause-index_bound
 shape_of_first-stands-requires-clause-index_bound t c = search (test_index, rules)
@@ -105,8 +106,8 @@ shape_with-joined-shape-requires-clause-item_bound t c = search (brackets_few, r
 pub shape_with-loop-at-preserved : goal.shape_with-loop-at-preserved
 shape_with-loop-at-preserved t c = search (hand_join, rules)
 
-pub shape_with-returns-in-Nothing : goal.shape_with-returns-in-Nothing
-shape_with-returns-in-Nothing t c = search (hand_nothing, rules)
+pub shape_with-returns-in_err-second-in-Connect : goal.shape_with-returns-in_err-second-in-Connect
+shape_with-returns-in_err-second-in-Connect t c = c.from_residual.ensures ∙ hand_nothing _ _ _ _ _ _ _ _ c.loop-at.invariant (search rules) _ c.row_of.ensures _ _ c.in-Connect.is (search rules) _ c.shape_of.ensures c.in_err-second-in-Connect.was
 
 pub shape_with-returns-in-Test : goal.shape_with-returns-in-Test
 shape_with-returns-in-Test t c = search (hand_test, rules)

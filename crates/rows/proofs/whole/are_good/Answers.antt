@@ -12,5 +12,5 @@ returns-then-shape-gt32 c = search (many_good, rules)
 pub returns-else-shape-gt32 : goal.returns-else-shape-gt32
 returns-else-shape-gt32 c = search (few_good, rules)
 
-pub returns-in-Nothing : goal.returns-in-Nothing
-returns-in-Nothing c = search (none_good, rules)
+pub returns-in-None : goal.returns-in-None
+returns-in-None c = search (none_good, rules)

@@ -6,8 +6,8 @@ use Rattle.search.proofs.asked.prefix_asked.Goals as goal
 pub returns-then-is_prefix : goal.returns-then-is_prefix
 returns-then-is_prefix c = search (prefix_is, rules)
 
-pub returns-in-Is : goal.returns-in-Is
-returns-in-Is c = search (other_operator, rules)
+pub returns-in-Some : goal.returns-in-Some
+returns-in-Some c = search (other_operator, rules)
 
 pub returns : goal.returns
 returns c = search (no_operator, rules)

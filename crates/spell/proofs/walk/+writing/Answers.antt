@@ -34,34 +34,34 @@ pub write_chosen-write_member-last-requires-clause-filter_len_bound : goal.write
 write_chosen-write_member-last-requires-clause-filter_len_bound t c = c.requires.filter_len_bound
 
 pub write_chosen-write_member-last-requires-clause-placed : goal.write_chosen-write_member-last-requires-clause-placed
-write_chosen-write_member-last-requires-clause-placed t c = (member_ahead _ _ _ _ c.read_member-member.ensures _ c.in-Test.is).0
+write_chosen-write_member-last-requires-clause-placed t c = (member_ahead _ _ _ _ c.read_member-member.ensures _ c.in-Some.is).0
 
 pub write_chosen-write_member-last-requires-clause-operator_bound : goal.write_chosen-write_member-last-requires-clause-operator_bound
-write_chosen-write_member-last-requires-clause-operator_bound t c = member-operator _ _ _ _ c.read_member-member.ensures _ c.in-Test.is
+write_chosen-write_member-last-requires-clause-operator_bound t c = member-operator _ _ _ _ c.read_member-member.ensures _ c.in-Some.is
 
 pub write_chosen-write_member-last-requires-clause-room : goal.write_chosen-write_member-last-requires-clause-room
-write_chosen-write_member-last-requires-clause-room t c = chosen-member_room c.args.spot.levels c.args.filter.now c.args.spot.close c.args.spot.at c.args.until _ c.requires.room_for c.write_choice-start.ensures _ c.skip-next.ensures c.write_filter-inner.ensures _ c.read_member-member.ensures _ c.in-Test.is
+write_chosen-write_member-last-requires-clause-room t c = chosen-member_room c.args.spot.levels c.args.filter.now c.args.spot.close c.args.spot.at c.args.until _ c.requires.room_for c.write_choice-start.ensures _ c.skip-next.ensures c.write_filter-inner.ensures _ c.read_member-member.ensures _ c.in-Some.is
 
 pub write_chosen-overflow_add-result : goal.write_chosen-overflow_add-result
-write_chosen-overflow_add-result t c = record { fits = omega (arith, chosen-fits c.args.spot.levels c.args.filter.now c.args.spot.close c.args.spot.at c.args.until _ c.requires.room_for c.write_choice-start.ensures _ c.skip-next.ensures c.write_filter-inner.ensures _ c.read_member-member.ensures _ c.in-Test.is c.write_member-last.ensures, c.well_formed) }
+write_chosen-overflow_add-result t c = record { fits = omega (arith, chosen-fits c.args.spot.levels c.args.filter.now c.args.spot.close c.args.spot.at c.args.until _ c.requires.room_for c.write_choice-start.ensures _ c.skip-next.ensures c.write_filter-inner.ensures _ c.read_member-member.ensures _ c.in-Some.is c.write_member-last.ensures, c.well_formed) }
 
-pub write_chosen-shape_of-out-in-Test : goal.write_chosen-shape_of-out-in-Test
-write_chosen-shape_of-out-in-Test t c = chosen_long c.args.spot.levels c.args.filter.now c.args.spot.close c.args.spot.at c.args.until _ c.requires.room_for c.write_choice-start.ensures _ c.skip-next.ensures c.write_filter-inner.ensures _ c.read_member-member.ensures _ c.in-Test.is c.write_member-last.ensures
+pub write_chosen-shape_of-out-in-Some : goal.write_chosen-shape_of-out-in-Some
+write_chosen-shape_of-out-in-Some t c = chosen_long c.args.spot.levels c.args.filter.now c.args.spot.close c.args.spot.at c.args.until _ c.requires.room_for c.write_choice-start.ensures _ c.skip-next.ensures c.write_filter-inner.ensures _ c.read_member-member.ensures _ c.in-Some.is c.write_member-last.ensures
 
-pub write_chosen-returns-in-Test : goal.write_chosen-returns-in-Test
-write_chosen-returns-in-Test t c = chosen_spelt c.args.spot.levels c.args.filter.now c.args.spot.close c.args.spot.at c.args.until _ c.requires.room_for c.write_choice-start.ensures _ c.skip-next.ensures c.write_filter-inner.ensures _ c.read_member-member.ensures _ c.in-Test.is c.write_member-last.ensures
+pub write_chosen-returns-in-Some : goal.write_chosen-returns-in-Some
+write_chosen-returns-in-Some t c = chosen_spelt c.args.spot.levels c.args.filter.now c.args.spot.close c.args.spot.at c.args.until _ c.requires.room_for c.write_choice-start.ensures _ c.skip-next.ensures c.write_filter-inner.ensures _ c.read_member-member.ensures _ c.in-Some.is c.write_member-last.ensures
 
-pub write_chosen-shape_of-out-in-Nothing : goal.write_chosen-shape_of-out-in-Nothing
-write_chosen-shape_of-out-in-Nothing t c = chosen_nothing c.args.spot.levels c.args.filter.now c.args.spot.close c.args.spot.at c.args.until _ c.requires.room_for c.write_choice-start.ensures _ c.skip-next.ensures c.write_filter-inner.ensures _ c.read_member-member.ensures c.in-Nothing.is
+pub write_chosen-shape_of-out-in-None : goal.write_chosen-shape_of-out-in-None
+write_chosen-shape_of-out-in-None t c = chosen_nothing c.args.spot.levels c.args.filter.now c.args.spot.close c.args.spot.at c.args.until _ c.requires.room_for c.write_choice-start.ensures _ c.skip-next.ensures c.write_filter-inner.ensures _ c.read_member-member.ensures c.in-None.is
 
-pub write_chosen-returns-in-Nothing : goal.write_chosen-returns-in-Nothing
-write_chosen-returns-in-Nothing t c = chosen_nothing c.args.spot.levels c.args.filter.now c.args.spot.close c.args.spot.at c.args.until _ c.requires.room_for c.write_choice-start.ensures _ c.skip-next.ensures c.write_filter-inner.ensures _ c.read_member-member.ensures c.in-Nothing.is
+pub write_chosen-returns-in-None : goal.write_chosen-returns-in-None
+write_chosen-returns-in-None t c = chosen_nothing c.args.spot.levels c.args.filter.now c.args.spot.close c.args.spot.at c.args.until _ c.requires.room_for c.write_choice-start.ensures _ c.skip-next.ensures c.write_filter-inner.ensures _ c.read_member-member.ensures c.in-None.is
 
 pub write_filter-write_item-written-requires : goal.write_filter-write_item-written-requires
 write_filter-write_item-written-requires t c = (omega arith, (search rules, (search rules, search (chained_item, rules))))
 
-pub write_filter-loop-next-init : goal.write_filter-loop-next-init
-write_filter-loop-next-init t c = chained_starts _ _ _ _ c.requires.room_for c.write_item-written.ensures
+pub write_filter-loop-link-init : goal.write_filter-loop-link-init
+write_filter-loop-link-init t c = chained_starts _ _ _ _ c.requires.room_for c.write_item-written.ensures
 
 pub write_filter-slice_bounds-write_joined-count : goal.write_filter-slice_bounds-write_joined-count
 write_filter-slice_bounds-write_joined-count t c = search (chained_within, rules)
@@ -70,22 +70,22 @@ pub write_filter-slice_bounds-write_joined-start : goal.write_filter-slice_bound
 write_filter-slice_bounds-write_joined-start t c = search (chained_within, rules)
 
 pub write_filter-write_joined-more-requires : goal.write_filter-write_joined-more-requires
-write_filter-write_joined-more-requires t c = let a = connective_ahead _ _ _ _ _ c.read_connective-found.ensures c.in-Next.is in (omega arith, (search rules, (a.1, search (chained_room, rules))))
+write_filter-write_joined-more-requires t c = let a = connective_ahead _ _ _ _ c.read_connective.ensures c.in-Some.is in (omega arith, (search rules, (a.1, search (chained_room, rules))))
 
 pub write_filter-overflow_add-written : goal.write_filter-overflow_add-written
-write_filter-overflow_add-written t c = record { fits = omega (arith, chained_fits _ _ _ _ c.loop-next.invariant _ c.read_connective-found.ensures _ _ c.in-Next.is c.write_joined-more.ensures) }
+write_filter-overflow_add-written t c = record { fits = omega (arith, chained_fits _ _ _ _ c.loop-link.invariant _ c.read_connective.ensures _ c.in-Some.is c.write_joined-more.ensures) }
 
-pub write_filter-loop-next-smaller : goal.write_filter-loop-next-smaller
-write_filter-loop-next-smaller t c = let a = chained_ahead _ _ _ _ c.loop-next.invariant _ c.read_connective-found.ensures _ _ c.in-Next.is c.write_joined-more.ensures in omega arith
+pub write_filter-loop-link-smaller : goal.write_filter-loop-link-smaller
+write_filter-loop-link-smaller t c = let a = chained_ahead _ _ _ _ c.loop-link.invariant _ c.read_connective.ensures _ c.in-Some.is c.write_joined-more.ensures in omega arith
 
-pub write_filter-loop-next-preserved : goal.write_filter-loop-next-preserved
-write_filter-loop-next-preserved t c = search (chained_next, rules)
+pub write_filter-loop-link-preserved : goal.write_filter-loop-link-preserved
+write_filter-loop-link-preserved t c = search (chained_next, rules)
 
-pub write_filter-returns-in-Nothing : goal.write_filter-returns-in-Nothing
-write_filter-returns-in-Nothing t c = chained_over _ _ _ _ c.requires.room_for c.write_item-written.ensures (chained_ends _ _ _ _ c.loop-next.invariant _ c.read_connective-found.ensures c.in-Nothing.is)
+pub write_filter-returns : goal.write_filter-returns
+write_filter-returns t c = chained_over _ _ _ _ c.requires.room_for c.write_item-written.ensures (chained_ends _ _ _ _ c.loop-link.invariant _ c.read_connective.ensures c.in_default.is)
 
 pub write_item-write_test-length-requires-clause-placed : goal.write_item-write_test-length-requires-clause-placed
-write_item-write_test-length-requires-clause-placed t c = (head_test_placed _ _ _ _ c.read_head-head.ensures (search rules) _ c.in-Test.is).0
+write_item-write_test-length-requires-clause-placed t c = (head_test_placed _ _ _ _ c.read_head.ensures (search rules) _ c.in-Some.is _ c.in-Test.is).0
 
 pub write_item-write_test-length-requires-clause-operator_bound : goal.write_item-write_test-length-requires-clause-operator_bound
 write_item-write_test-length-requires-clause-operator_bound t c = search (item-operator, rules)
@@ -94,25 +94,25 @@ pub write_item-write_test-length-requires-clause-room : goal.write_item-write_te
 write_item-write_test-length-requires-clause-room t c = search (item_test_room, rules)
 
 pub write_item-overflow_sub-levels : goal.write_item-overflow_sub-levels
-write_item-overflow_sub-levels t c = let z = item_open_deep c.args.spot.levels c.args.filter.now c.args.spot.close c.args.spot.at _ c.requires.room_for _ c.read_head-head.ensures _ _ c.in-Open.is in omega arith
+write_item-overflow_sub-levels t c = let z = item_open_deep c.args.spot.levels c.args.filter.now c.args.spot.close c.args.spot.at _ c.requires.room_for _ c.read_head.ensures _ c.in-Some.is _ _ c.in-Open.is in omega arith
 
 pub write_item-write_not-requires : goal.write_item-write_not-requires
-write_item-write_not-requires t c = let a = head_open_ahead _ _ _ _ c.read_head-head.ensures (search rules) _ _ c.in-Open.is in (omega arith, (search rules, (a.1, search (item_open_room, rules))))
+write_item-write_not-requires t c = let a = head_open_ahead _ _ _ _ c.read_head.ensures (search rules) _ c.in-Some.is _ _ c.in-Open.is in (omega arith, (search rules, (a.1, search (item_open_room, rules))))
 
 pub write_item-returns-then-negated : goal.write_item-returns-then-negated
 write_item-returns-then-negated t c = search (item_open_spelt, rules)
 
 pub write_item-overflow_sub-levels-in-Open : goal.write_item-overflow_sub-levels-in-Open
-write_item-overflow_sub-levels-in-Open t c = let z = item_open_deep c.args.spot.levels c.args.filter.now c.args.spot.close c.args.spot.at _ c.requires.room_for _ c.read_head-head.ensures _ _ c.in-Open.is in omega arith
+write_item-overflow_sub-levels-in-Open t c = let z = item_open_deep c.args.spot.levels c.args.filter.now c.args.spot.close c.args.spot.at _ c.requires.room_for _ c.read_head.ensures _ c.in-Some.is _ _ c.in-Open.is in omega arith
 
 pub write_item-write_round-requires : goal.write_item-write_round-requires
-write_item-write_round-requires t c = let a = head_open_ahead _ _ _ _ c.read_head-head.ensures (search rules) _ _ c.in-Open.is in (omega arith, (search rules, (a.1, search (item_open_room, rules))))
+write_item-write_round-requires t c = let a = head_open_ahead _ _ _ _ c.read_head.ensures (search rules) _ c.in-Some.is _ _ c.in-Open.is in (omega arith, (search rules, (a.1, search (item_open_room, rules))))
 
 pub write_item-overflow_sub-levels-in-Choice : goal.write_item-overflow_sub-levels-in-Choice
-write_item-overflow_sub-levels-in-Choice t c = let z = item_choice_deep c.args.spot.levels c.args.filter.now c.args.spot.close c.args.spot.at _ c.requires.room_for _ c.read_head-head.ensures _ c.in-Choice.is in omega arith
+write_item-overflow_sub-levels-in-Choice t c = let z = item_choice_deep c.args.spot.levels c.args.filter.now c.args.spot.close c.args.spot.at _ c.requires.room_for _ c.read_head.ensures _ c.in-Some.is _ c.in-Choice.is in omega arith
 
 pub write_item-write_chosen-requires : goal.write_item-write_chosen-requires
-write_item-write_chosen-requires t c = let a = head_choice_ahead _ _ _ _ c.read_head-head.ensures c.requires.at_in_bounds _ c.in-Choice.is in (omega arith, (search rules, (omega arith, (omega arith, search (item_choice_room, rules)))))
+write_item-write_chosen-requires t c = let a = head_choice_ahead _ _ _ _ c.read_head.ensures c.requires.at_in_bounds _ c.in-Some.is _ c.in-Choice.is in (omega arith, (search rules, (omega arith, (omega arith, search (item_choice_room, rules)))))
 
 pub write_item-returns-in-Test : goal.write_item-returns-in-Test
 write_item-returns-in-Test t c = search (item_test_spelt, rules)
@@ -123,8 +123,8 @@ write_item-returns-else-negated t c = search (item_open_spelt, rules)
 pub write_item-returns-in-Choice : goal.write_item-returns-in-Choice
 write_item-returns-in-Choice t c = search (item_choice_spelt, rules)
 
-pub write_item-returns-in-Nothing : goal.write_item-returns-in-Nothing
-write_item-returns-in-Nothing t c = item_nothing c.args.spot.levels c.args.filter.now c.args.spot.close c.args.spot.at _ c.requires.room_for _ c.read_head-head.ensures c.in-Nothing.is
+pub write_item-returns-in_default : goal.write_item-returns-in_default
+write_item-returns-in_default t c = item_nothing c.args.spot.levels c.args.filter.now c.args.spot.close c.args.spot.at _ c.requires.room_for _ c.read_head.ensures c.in_default.is
 
 pub write_joined-write_connective-start-requires : goal.write_joined-write_connective-start-requires
 write_joined-write_connective-start-requires t c = search (connective_room, rules)

@@ -26,8 +26,8 @@ decreases-write_operand l = 8 * (length l.filter.now - l.spot.at) + 1
 abbrev pub decreases-write_round : goal.decreases-write_round
 decreases-write_round l = 8 * (length l.filter.now - l.at) + 4
 
-abbrev pub invariant-write_filter-loop-next : goal.invariant-write_filter-loop-next
-invariant-write_filter-loop-next l = Chained l.levels l.filter l.close l.at l.initial.out l.out l.written
+abbrev pub invariant-write_filter-loop-link : goal.invariant-write_filter-loop-link
+invariant-write_filter-loop-link l = Chained l.levels l.filter l.close l.at l.initial.out l.out l.written
 
-abbrev pub decreases-write_filter-loop-next : goal.decreases-write_filter-loop-next
-decreases-write_filter-loop-next l = length l.filter - l.written.end
+abbrev pub decreases-write_filter-loop-link : goal.decreases-write_filter-loop-link
+decreases-write_filter-loop-link l = length l.filter - l.written.end

@@ -9,8 +9,8 @@ returns-then-word-until c = search (operator_no_gap, rules)
 pub read_test_value-requires : goal.read_test_value-requires
 read_test_value-requires c = search (operator-within, rules)
 
-pub returns-in-Is : goal.returns-in-Is
-returns-in-Is c = search (test_operator_lem, rules)
+pub returns : goal.returns
+returns c = search (test_operator_lem, rules)
 
-pub returns-in-Nothing : goal.returns-in-Nothing
-returns-in-Nothing c = search (test_no_operator, rules)
+pub returns-in_err-operator : goal.returns-in_err-operator
+returns-in_err-operator c = search (test_no_operator, rules)

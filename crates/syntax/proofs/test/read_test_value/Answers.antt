@@ -12,8 +12,8 @@ may_follow-requires c = search (value-within, rules)
 pub returns-then-may_follow : goal.returns-then-may_follow
 returns-then-may_follow c = search (test_value_lem, rules)
 
-pub returns-else-may_follow : goal.returns-else-may_follow
-returns-else-may_follow c = search (test_not_followed, rules)
+pub returns : goal.returns
+returns c = search (test_not_followed, rules)
 
-pub returns-in-Nothing : goal.returns-in-Nothing
-returns-in-Nothing c = search (test_no_value, rules)
+pub returns-in_err-value : goal.returns-in_err-value
+returns-in_err-value c = search (test_no_value, rules)

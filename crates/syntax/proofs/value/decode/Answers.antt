@@ -7,8 +7,8 @@ use Rattle.syntax.proofs.value.decode.Goals as goal
 pub loop-i-init : goal.loop-i-init
 loop-i-init c = (search (decoding_starts, rules), refl)
 
-pub loop-i-preserved-in-Byte : goal.loop-i-preserved-in-Byte
-loop-i-preserved-in-Byte c = (search (decoding_byte, rules), search rules)
+pub loop-i-preserved-in-Some : goal.loop-i-preserved-in-Some
+loop-i-preserved-in-Some c = (search (decoding_byte, rules), search rules)
 
 pub loop-i-preserved : goal.loop-i-preserved
 loop-i-preserved c = (search (decoding_backslash, rules), search rules)

@@ -8,13 +8,13 @@ pub returns-then-at-s : goal.returns-then-at-s
 returns-then-at-s c = search (value_end, rules)
 
 pub overflow_add-result : goal.overflow_add-result
-overflow_add-result c = omega (arith, string-within _ _ _ _ _ c.read_string.ensures c.in-Closed.is (search rules))
+overflow_add-result c = omega (arith, string-within _ _ _ _ c.read_string.ensures c.in_ok-string.was (search rules))
 
-pub returns-in-Closed : goal.returns-in-Closed
-returns-in-Closed c = search (value-string, rules)
+pub returns-then-b-eq34 : goal.returns-then-b-eq34
+returns-then-b-eq34 c = search (value-string, rules)
 
-pub returns-in-Nothing : goal.returns-in-Nothing
-returns-in-Nothing c = search (value_open, rules)
+pub returns-in_err-string : goal.returns-in_err-string
+returns-in_err-string c = search (value_open, rules)
 
 pub returns-then-is_bare : goal.returns-then-is_bare
 returns-then-is_bare c = search (value_bare, rules)
