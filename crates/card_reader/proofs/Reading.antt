@@ -4,6 +4,7 @@
 -- begins at the last entry under its parameter; what stood there before stands behind it now (`Last`). Of a parameter whose entries are not
 -- kept nothing changes but the number of entries (`holds_more`).
 -- Assumes nothing.
+use Rattle.std.specs.Prelude.{Option, Some, None, is_some}
 use Prim.Native.Nat.{ℕ, ◌+◌, ◌*◌, ◌-◌, ◌≤◌, ◌<◌}
 use native.Mathlib.Nat.{add-zero}
 use native.Mathlib.Omega.{arith}
@@ -29,10 +30,12 @@ use Rattle.card.proofs.Entries.{entries_start}
 use Rattle.kind.specs.Readable.{card_readable}
 use Rattle.judge.specs.Sets.{conforms_to}
 use Rattle.judge.proofs.Entries.{past_readable, conforms-next, conforms_not, conforms_end}
-use Rattle.card_reader.specs.Readings.{Serves, ReadAs}
+use Rattle.card_reader.specs.Readings.{Serves, ReadAs, packed, unpacked}
 use Rattle.card_reader.specs.Lists.{Lent, entry_cell, reading_at, no_entry, Holds, Last, IsKept, HoldsTo, BeginsAlike, ReadsCard}
 use Rattle.card_reader.specs.Storing.{Stored, Begun, Takes}
 use Rattle.card_reader.specs.declared.TextReading.{TextReading}
+use Rattle.card_reader.specs.declared.Packed.{Packed}
+use Rattle.card_reader.proofs.TextReadings.{unpacked-packed}
 use Rattle.card_reader.proofs.Storing.{stored_head, stored-behind, stored_others, stored_occurrence, stored-start, stored_end, stored_form, stored-value, stored-unit, stored-first, stored_last, stored_spans, stored_begins, stored_keeps, stored-lent, begun_lent, begun_begins}
 
 -- ---- chains
@@ -89,7 +92,7 @@ module _ (card : List ℕ) (es : List Entry) (cells : List ℕ) (spans : List �
 serves_same : {t : List ℕ} {h g : TextReading} → h ≡ g → Serves t h → Serves t g
 serves_same {t} e s = subst (Serves t) e s
 
-module _ (e : ℕ) (x : Span) (h : TextReading) (cells : List ℕ) (spans : List ℤ) (cells' : List ℕ) (spans' : List ℤ) (st : Stored e x h cells spans cells' spans')
+module _ (e : ℕ) (x : Span) (h : Packed) (cells : List ℕ) (spans : List ℤ) (cells' : List ℕ) (spans' : List ℤ) (st : Stored e x h cells spans cells' spans')
     (lent : Lent cells spans) (few : e < 64) (low : x.index < 32) (kept : get_or cells x.index 0 ≤ 64) where
   other : (j : ℕ) → (j ≡ x.index → ⊥) → (j < entry_cell e) ⊎ (entry_cell e + 7 ≤ j) → get_or cells' j 0 ≡ get_or cells j 0
   other = stored_others e x h cells spans cells' spans' st lent.size lent.span_size few low
@@ -113,7 +116,7 @@ module _ (e : ℕ) (x : Span) (h : TextReading) (cells : List ℕ) (spans : List
       by_place false q = subst (λ (c : ℕ). c ≤ 64) (other j (eqb-false j x.index q) (inl (omega (arith, z)))) y
 
   module _ (card : List ℕ) (es : List Entry) (w : HoldsTo card es cells spans e) (t : List ℕ) (is : get_or es e no_entry ≡ entry x.index x.occurrence t) (text : t ≡ part card x.start x.end)
-      (order : x.start ≤ x.end) (within : x.end ≤ length card) (serves : Serves t h) (byte : x.occurrence < 256) where
+      (order : x.start ≤ x.end) (within : x.end ≤ length card) (serves : Serves t (unpacked h)) (byte : x.occurrence < 256) where
     here : (get_or es e no_entry).index ≡ x.index
     here = ap (λ (y : Entry). y.index) is
 
@@ -135,18 +138,16 @@ module _ (e : ℕ) (x : Span) (h : TextReading) (cells : List ℕ) (spans : List
         let span_size = lent.span_size in
         let s : get_or cells' (entry_cell e + 2) 0 ≡ x.start = stored-start e x h cells spans cells' spans' st size span_size few low in
         let u : get_or cells' (entry_cell e + 3) 0 ≡ x.end = stored_end e x h cells spans cells' spans' st size span_size few low in
+        let reading : unpacked h ≡ reading_at cells' spans' e =
+        rw (stored_form e x h cells spans cells' spans' st size span_size few low, stored-value e x h cells spans cells' spans' st size span_size few low, stored-unit e x h cells spans cells' spans' st size span_size few low, stored-first e x h cells spans cells' spans' st size span_size few low, stored_last e x h cells spans cells' spans' st size span_size few low)
+        in
         record {
           byte = byte;
           occurrence = stored_occurrence e x h cells spans cells' spans' st size span_size few low;
           order = omega (arith, order, s, u);
           within = omega (arith, within, u);
           text = rw (s, u) text;
-          serves =
-              let served = serves in
-              record {
-                number = λ f. rw (stored-value e x h cells spans cells' spans' st size span_size few low, stored-unit e x h cells spans cells' spans' st size span_size few low) (served.number (sym (stored_form e x h cells spans cells' spans' st size span_size few low) ∙ f));
-                span = λ f. rw (stored-unit e x h cells spans cells' spans' st size span_size few low, stored-first e x h cells spans cells' spans' st size span_size few low, stored_last e x h cells spans cells' spans' st size span_size few low) (served.span (sym (stored_form e x h cells spans cells' spans' st size span_size few low) ∙ f));
-              };
+          serves = serves_same reading serves;
         }
 
     next_each : (k : ℕ) → k < e + 1 → IsKept cells' (get_or es k no_entry).index → Holds card cells' spans' k (get_or es k no_entry)
@@ -213,20 +214,20 @@ module _ (kinds t : List ℕ) (e : ℕ) (x : Span) (cells : List ℕ) (spans : L
               holds_more card es cells spans e w x.index (ap (λ (z : Entry). z.index) is) (omega (arith, low, same)) (subst (λ (j : ℕ). 64 < get_or cells j 0) same n);
         }
 
-    module _ (n : get_or cells i 0 ≤ 64) (h : TextReading) (a : ReadAs kind t h) where
-      pub takes_misfit : h.fits ≡ false → Takes kinds t e x cells spans cells spans false
-      takes_misfit f = record { answer = sym f ∙ a.fits ∙ ap (λ (m : ℕ). card_readable m t) own_kind; lent = lent; begins = record { size = refl; same = λ _ _. refl }; keeps = λ _ _ y. y; adds = λ y. both_ways y refl }
+    module _ (n : get_or cells i 0 ≤ 64) (r : Option TextReading) (a : ReadAs kind t r) where
+      pub takes_misfit : r ≡ None → Takes kinds t e x cells spans cells spans false
+      takes_misfit f = record { answer = sym (ap is_some f) ∙ a.fits ∙ ap (λ (m : ℕ). card_readable m t) own_kind; lent = lent; begins = record { size = refl; same = λ _ _. refl }; keeps = λ _ _ y. y; adds = λ y. both_ways y refl }
 
-      pub takes_stored : h.fits ≡ true → e < 64 → x.occurrence < 256 → (cells' : List ℕ) (spans' : List ℤ) → Stored e x h cells spans cells' spans' → Takes kinds t e x cells spans cells' spans' true
-      takes_stored f few byte cells' spans' st =
+      pub takes_stored : (h : TextReading) → r ≡ Some h → e < 64 → x.occurrence < 256 → (cells' : List ℕ) (spans' : List ℤ) → Stored e x (packed h) cells spans cells' spans' → Takes kinds t e x cells spans cells' spans' true
+      takes_stored h f few byte cells' spans' st =
           let own-low : x.index < 32 = omega (arith, low, same) in
           record {
-            answer = sym f ∙ a.fits ∙ ap (λ (m : ℕ). card_readable m t) own_kind;
-            lent = stored-lent e x h cells spans cells' spans' st lent.size lent.span_size few own-low lent;
-            begins = stored_begins e x h cells spans cells' spans' st lent.size lent.span_size few own-low;
-            keeps = stored_keeps e x h cells spans cells' spans' st lent.size lent.span_size few own-low;
+            answer = sym (ap is_some f) ∙ a.fits ∙ ap (λ (m : ℕ). card_readable m t) own_kind;
+            lent = stored-lent e x (packed h) cells spans cells' spans' st lent.size lent.span_size few own-low lent;
+            begins = stored_begins e x (packed h) cells spans cells' spans' st lent.size lent.span_size few own-low;
+            keeps = stored_keeps e x (packed h) cells spans cells' spans' st lent.size lent.span_size few own-low;
             adds = λ _ card es w is text order within.
-                holds_stored e x h cells spans cells' spans' st lent few own-low (subst (λ (j : ℕ). get_or cells j 0 ≤ 64) same n) card es w t is text order within (a.serves f) byte;
+                holds_stored e x (packed h) cells spans cells' spans' st lent few own-low (subst (λ (j : ℕ). get_or cells j 0 ≤ 64) same n) card es w t is text order within (serves_same (sym (unpacked-packed h)) (a.serves h f)) byte;
           }
 
 -- ---- the loop

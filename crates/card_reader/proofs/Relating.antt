@@ -2,7 +2,7 @@
 -- Assumes nothing.
 use Rattle.std.specs.Prelude.{Option, Some, None}
 use Prim.Native.Nat.{ℕ, ◌%◌, ◌/◌}
-use mathlib.Core.Path.{◌≡◌, refl, ap, sym, ◌∙◌}
+use mathlib.Core.Path.{◌≡◌, refl, ap, sym, subst, ◌∙◌}
 use mathlib.Core.Bool.{Bool, true, false}
 use mathlib.Core.List.{List}
 use lib.Dec.{eqb}
@@ -19,7 +19,7 @@ use Rattle.kind.specs.declared.NumberRelation.{NumberRelation}
 use Rattle.kind.specs.declared.DateRelation.{DateRelation}
 use Rattle.kind.specs.declared.Relation.{Relation}
 use Rattle.kind.specs.declared.Readings.{Readings}
-use Rattle.card_reader.specs.Readings.{end_from, period_from, decimal, Serves}
+use Rattle.card_reader.specs.Readings.{end_from, period_from, Serves, serves_number, serves_span}
 use Rattle.card_reader.specs.declared.TextReading.{TextReading}
 
 pub end_open : (m : Bool) (t : ℤ) → m ≡ true → None ≡ end_from m t
@@ -44,27 +44,27 @@ module _ (relation : NumberRelation) (i : Decimal) (v : Option Decimal) where
 pub kept_bounded : (v : Option Decimal) (f : Decimal) → Kept v → v ≡ Some f → Bounded f
 kept_bounded v f k h = k.bounded f h
 
-module _ (relation : DateRelation) (u : ℕ) (a b : ℤ) (v : Option Date) where
-  pub span_none : v ≡ None → false ≡ date_readings_relate relation (Some (period_from u a b)) v
+module _ (relation : DateRelation) (i : Period) (v : Option Date) where
+  pub span_none : v ≡ None → false ≡ date_readings_relate relation (Some i) v
   span_none h = rw h
 
-  pub span_relates : (p : Period) (f : Date) (c d : ℤ) (t : Bool) → v ≡ Some f → p ≡ period_from u c d → c ≡ a → d ≡ b → t ≡ dates_relate relation p f → t ≡ date_readings_relate relation (Some (period_from u a b)) v
-  span_relates p f c d t h e g k y = rw h (y ∙ ap (λ (q : Period). dates_relate relation q f) (e ∙ rw (g, k)))
+  pub span_relates : (f : Date) (t : Bool) → v ≡ Some f → t ≡ dates_relate relation i f → t ≡ date_readings_relate relation (Some i) v
+  span_relates f t h y = rw h y
+
+number_of : {text : List ℕ} {n : Decimal} → Serves text (TextReading.Number n) → numbers.read text ≡ Some n
+number_of (serves_number e) = e
+
+span_read : {text : List ℕ} {p : Period} → Serves text (TextReading.Span p) → periods.read_span text ≡ Some p
+span_read (serves_span e) = e
 
 module _ (relation : Relation) (text asked : List ℕ) (w : Readings) (h : TextReading) (s : Serves text h) where
-  pub serves_bounded : h.form ≡ 1 → Bounded (decimal h.value h.unit)
-  serves_bounded f = number_bounded text (numbers.read text) (decimal h.value h.unit) refl (s.number f)
+  pub serves_bounded : (i : Decimal) → h ≡ TextReading.Number i → Bounded i
+  serves_bounded i e = number_bounded text (numbers.read text) i refl (number_of (subst (Serves text) e s))
 
-  pub serves_number : (r : NumberRelation) (t : Bool) → relation ≡ Relation.Numbers r → h.form ≡ 1 → t ≡ number_readings_relate r (Some (decimal h.value h.unit)) w.number → t ≡ relates_read relation text asked w
+  pub serves-number : (i : Decimal) (r : NumberRelation) (t : Bool) → relation ≡ Relation.Numbers r → h ≡ TextReading.Number i → t ≡ number_readings_relate r (Some i) w.number → t ≡ relates_read relation text asked w
   unfolding relates_read
-  serves_number r t k f e = rw k (e ∙ ap (λ (n : Option Decimal). number_readings_relate r n w.number) (sym (s.number f)))
+  serves-number i r t k f e = rw k (e ∙ ap (λ (n : Option Decimal). number_readings_relate r n w.number) (sym (number_of (subst (Serves text) f s))))
 
-  pub serves_span : (r : DateRelation) (t : Bool) (c d : ℤ) → relation ≡ Relation.Dates r → h.form ≡ 2 → c ≡ h.start → d ≡ h.end → t ≡ date_readings_relate r (Some (period_from h.unit c d)) w.date → t ≡ relates_read relation text asked w
+  pub serves-span : (i : Period) (r : DateRelation) (t : Bool) → relation ≡ Relation.Dates r → h ≡ TextReading.Span i → t ≡ date_readings_relate r (Some i) w.date → t ≡ relates_read relation text asked w
   unfolding relates_read
-  serves_span r t c d k f x y e =
-      let same : period_from h.unit c d ≡ period_from h.unit h.start h.end = rw (x, y) in
-      rw k (e ∙ ap (λ (p : Option Period). date_readings_relate r p w.date) (ap Some same ∙ sym (s.span f)))
-
--- the text is read after all
-pub relates_again : (relation same : Relation) (text asked : List ℕ) (w : Readings) (t : Bool) → relation ≡ same → t ≡ relates_read same text asked w → t ≡ relates_read relation text asked w
-relates_again relation same text asked w t h e = rw h e
+  serves-span i r t k f e = rw k (e ∙ ap (λ (p : Option Period). date_readings_relate r p w.date) (sym (span_read (subst (Serves text) f s))))

@@ -14,7 +14,7 @@ use borrow.Author.Tests.{eqb-true, eqb-false}
 use Rattle.card.specs.declared.Entry.{Entry as Span}
 use Rattle.card_reader.specs.Lists.{Lent, entry_cell, IsKept, BeginsAlike}
 use Rattle.card_reader.specs.Storing.{Put, Linked, Placed, Valued, Spanned, Stored, Begun}
-use Rattle.card_reader.specs.declared.TextReading.{TextReading}
+use Rattle.card_reader.specs.declared.Packed.{Packed}
 
 -- ---- the stores, one by one
 
@@ -30,14 +30,14 @@ valued_put l m n k e f v u p q r = record { is = r.is ∙ rw (q.is, p.is); size 
 pub spanned_put : (l m k : List ℤ) (e : ℕ) (a b a' b' : ℤ) → Put 128 l (2 * e) a' m → Put 128 m (2 * e + 1) b' k → a' ≡ a → b' ≡ b → Spanned l e a b k
 spanned_put l m k e a b a' b' p q f g = record { is = q.is ∙ rw (p.is, f, g); size = q.size }
 
-pub stored_is : (e : ℕ) (x : Span) (h : TextReading) (cells m n cells' : List ℕ) (spans spans' : List ℤ) (i : ℕ) (a b : ℤ) → Linked cells i e m → i ≡ x.index → Placed m e x.occurrence x.start x.end n
+pub stored_is : (e : ℕ) (x : Span) (h : Packed) (cells m n cells' : List ℕ) (spans spans' : List ℤ) (i : ℕ) (a b : ℤ) → Linked cells i e m → i ≡ x.index → Placed m e x.occurrence x.start x.end n
     → Valued n e h.form h.value h.unit cells' → Spanned spans e a b spans' → a ≡ h.start → b ≡ h.end → Stored e x h cells spans cells' spans'
 stored_is e x h cells m n cells' spans spans' i a b l same p v s f g =
     record { first = m; second = n; linked = subst (λ (j : ℕ). Linked cells j e m) same l; placed = p; valued = v; spanned = rw (f, g) at s }
 
 -- ---- what stands in the cells after the stores of one entry
 
-module _ (e : ℕ) (x : Span) (h : TextReading) (cells : List ℕ) (spans : List ℤ) (cells' : List ℕ) (spans' : List ℤ) (st : Stored e x h cells spans cells' spans')
+module _ (e : ℕ) (x : Span) (h : Packed) (cells : List ℕ) (spans : List ℤ) (cells' : List ℕ) (spans' : List ℤ) (st : Stored e x h cells spans cells' spans')
     (size : length cells ≡ 608) (span_size : length spans ≡ 128) (few : e < 64) (low : x.index < 32) where
   abbrev b : ℕ
   b = entry_cell e

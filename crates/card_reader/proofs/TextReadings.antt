@@ -8,7 +8,8 @@ use mathlib.Core.Bool.{Bool, true, false}
 use mathlib.Core.List.{List}
 use lib.IntN.{ℤ, pos}
 use Rattle.base.specs.Kinds.{number, date, period}
-use Rattle.base.proofs.Tests.{both_ways}
+use Rattle.std.specs.Bool.{then_some}
+use Rattle.std.proofs.lemmas.Option.{none-some, same_Some}
 use Rattle.number.specs.Reading as numbers
 use Rattle.number.specs.declared.Decimal.{Decimal}
 use Rattle.date.specs.Texts as dates
@@ -19,24 +20,17 @@ use Rattle.period.specs.declared.Period.{Period}
 use Rattle.period.proofs.Spelling as spelling
 use Rattle.kind.specs.Readable.{card_readable}
 use Rattle.kind.specs.Table as table
-use Rattle.card_reader.specs.Readings.{open_bit, instant_of, end_from, period_from, ReadAs}
+use Rattle.card_reader.specs.Readings.{open_bit, instant_of, end_from, period_from, Serves, serves_bytes, serves_number, serves_span, ReadAs, packed, unpacked}
 use Rattle.card_reader.specs.declared.TextReading.{TextReading}
 
-abbrev reading : Bool → ℕ → ℕ → ℕ → ℤ → ℤ → TextReading
-reading fits form value unit start end = record { fits = fits; form = form; value = value; unit = unit; start = start; end = end }
+-- ---- a text that is kept by its bytes
 
--- ---- a text that does not fit, or is kept by its bytes
-
-module _ (kind : ℕ) (t : List ℕ) (h : TextReading) where
-  pub read_misfit : h.fits ≡ false → false ≡ card_readable kind t → ReadAs kind t h
-  read_misfit f e = record { fits = f ∙ e; serves = λ y. both_ways y f }
-
-  pub read_plain : (r : Bool) → h.fits ≡ r → h.form ≡ 0 → r ≡ card_readable kind t → ReadAs kind t h
-  read_plain r f z e =
-      record {
-        fits = f ∙ e;
-        serves = λ _. record { number = λ n. absurd (omega (arith, z, n)); span = λ n. absurd (omega (arith, z, n)) };
-      }
+pub read_plain : (kind : ℕ) (t : List ℕ) (r : Bool) (h : Option TextReading) → r ≡ card_readable kind t → h ≡ then_some r TextReading.Bytes → ReadAs kind t h
+read_plain kind t r h e f = rw f (by_answer r e)
+  where
+    by_answer : (r : Bool) → r ≡ card_readable kind t → ReadAs kind t (then_some r TextReading.Bytes)
+    by_answer true e = record { fits = e; serves = λ h i. subst (Serves t) (same_Some TextReading.Bytes h i) serves_bytes }
+    by_answer false e = record { fits = e; serves = λ h i. absurd (none-some h i) }
 
 -- ---- a number
 
@@ -45,15 +39,15 @@ module _ (t : List ℕ) (r : Option Decimal) (e : r ≡ numbers.read t) where
   unfolding card_readable table.of_kind table.kinds numbers.readable
   number-readable = ap is_some e
 
-  pub number_read : (n : Decimal) → r ≡ Some n → ReadAs number t (reading true 1 n.digits n.decimals (pos 0) (pos 0))
+  pub number_read : (n : Decimal) → r ≡ Some n → ReadAs number t (Some (TextReading.Number n))
   number_read n h =
       record {
         fits = sym (ap is_some h) ∙ number-readable;
-        serves = λ _. record { number = λ _. sym e ∙ h; span = λ z. absurd (omega (arith, z)) };
+        serves = λ g i. subst (Serves t) (same_Some (TextReading.Number n) g i) (serves_number {n = n} (sym e ∙ h));
       }
 
-  pub number-unread : (h : TextReading) → r ≡ None → h.fits ≡ false → ReadAs number t h
-  number-unread h k f = read_misfit number t h f (sym (ap is_some k) ∙ number-readable)
+  pub number-unread : r ≡ None → ReadAs number t None
+  number-unread k = record { fits = sym (ap is_some k) ∙ number-readable; serves = λ g i. absurd (none-some g i) }
 
 -- ---- a date
 
@@ -62,21 +56,46 @@ module _ (t : List ℕ) (r : Option Date) (e : r ≡ dates.read t) where
   unfolding card_readable table.of_kind table.kinds dates.readable
   date-readable = ap is_some e
 
-  date_span : (d : Date) → r ≡ Some d → periods.read_span t ≡ Some (period_from 0 d.start d.end)
-  unfolding periods.read_span periods.span_or periods.known period_from end_from
+  date_span : (d : Date) → r ≡ Some d → periods.read_span t ≡ Some (periods.known d)
+  unfolding periods.read_span periods.span_or
   date_span d h = ap (λ (x : Option Date). periods.span_or x (periods.read t)) (sym e ∙ h)
 
-  pub date-read : (d : Date) (a b : ℤ) → r ≡ Some d → a ≡ d.start → b ≡ d.end → ReadAs date t (reading true 2 0 0 a b)
-  date-read d a b h p q =
+  pub date-read : (d : Date) (p : Period) → r ≡ Some d → p ≡ periods.known d → ReadAs date t (Some (TextReading.Span p))
+  date-read d p h q =
       record {
         fits = sym (ap is_some h) ∙ date-readable;
-        serves = λ _. record { number = λ z. absurd (omega (arith, z)); span = λ _. date_span d h ∙ rw (p, q) };
+        serves = λ g i. subst (Serves t) (same_Some (TextReading.Span p) g i) (serves_span {p = p} (date_span d h ∙ ap Some (sym q)));
       }
 
-  pub date-unread : (h : TextReading) → r ≡ None → h.fits ≡ false → ReadAs date t h
-  date-unread h k f = read_misfit date t h f (sym (ap is_some k) ∙ date-readable)
+  pub date-unread : r ≡ None → ReadAs date t None
+  date-unread k = record { fits = sym (ap is_some k) ∙ date-readable; serves = λ g i. absurd (none-some g i) }
 
 -- ---- a period
+
+module _ (t : List ℕ) (r : Option Period) (e : r ≡ periods.read t) where
+  period-readable : is_some r ≡ card_readable period t
+  unfolding card_readable table.of_kind table.kinds periods.readable
+  period-readable = ap is_some e
+
+  period_span : (p : Period) → r ≡ Some p → periods.read_span t ≡ Some p
+  period_span p h = (spelling.span_iff t p).1 (span_of_period ((spelling.read_iff t p).0 (sym e ∙ h)))
+
+  pub period-read : (p : Period) → r ≡ Some p → ReadAs period t (Some (TextReading.Span p))
+  period-read p h =
+      record {
+        fits = sym (ap is_some h) ∙ period-readable;
+        serves = λ g i. subst (Serves t) (same_Some (TextReading.Span p) g i) (serves_span {p = p} (period_span p h));
+      }
+
+  pub period-unread : r ≡ None → ReadAs period t None
+  period-unread k = record { fits = sym (ap is_some k) ∙ period-readable; serves = λ g i. absurd (none-some g i) }
+
+-- ---- by kind
+
+pub read_as : (kind : ℕ) (t : List ℕ) (h : Option TextReading) (k : ℕ) → kind ≡ k → ReadAs k t h → ReadAs kind t h
+read_as kind t h k e r = subst (λ (n : ℕ). ReadAs n t h) (sym e) r
+
+-- ---- in whole numbers, and back
 
 pub bit_open : (e : Option ℤ) → e ≡ None → (1 ≡ open_bit e) × (1 ≤ 1)
 unfolding open_bit
@@ -101,30 +120,9 @@ ends-back None (Some y) = refl
 ends-back (Some x) None = refl
 ends-back (Some x) (Some y) = refl
 
-module _ (t : List ℕ) (r : Option Period) (e : r ≡ periods.read t) where
-  period-readable : is_some r ≡ card_readable period t
-  unfolding card_readable table.of_kind table.kinds periods.readable
-  period-readable = ap is_some e
-
-  period_span : (p : Period) → r ≡ Some p → periods.read_span t ≡ Some p
-  period_span p h = (spelling.span_iff t p).1 (span_of_period ((spelling.read_iff t p).0 (sym e ∙ h)))
-
-  pub period-read : (p : Period) (m n : ℕ) (a b : ℤ) → r ≡ Some p → m ≡ open_bit p.start → n ≡ open_bit p.end → a ≡ instant_of p.start → b ≡ instant_of p.end
-      → ReadAs period t (reading true 2 0 (m + 2 * n) a b)
-  period-read p m n a b h i j k l =
-      record {
-        fits = sym (ap is_some h) ∙ period-readable;
-        serves = λ _. record {
-          number = λ z. absurd (omega (arith, z));
-          span = λ _. period_span p h ∙ ap Some (ends-back p.start p.end ∙ rw (i, j, k, l));
-        };
-      }
-
-  pub period-unread : (h : TextReading) → r ≡ None → h.fits ≡ false → ReadAs period t h
-  period-unread h k f = read_misfit period t h f (sym (ap is_some k) ∙ period-readable)
-
--- ---- by kind
-
-module _ (kind : ℕ) (t : List ℕ) (h : TextReading) where
-  pub read_as : (k : ℕ) → kind ≡ k → ReadAs k t h → ReadAs kind t h
-  read_as k e r = subst (λ (n : ℕ). ReadAs n t h) (sym e) r
+-- what is packed comes out as it was
+pub unpacked-packed : (h : TextReading) → unpacked (packed h) ≡ h
+unfolding packed unpacked
+unpacked-packed TextReading.Bytes = refl
+unpacked-packed (TextReading.Number n) = refl
+unpacked-packed (TextReading.Span p) = ap TextReading.Span (sym (ends-back p.start p.end))

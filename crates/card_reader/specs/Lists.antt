@@ -4,7 +4,7 @@ use Rattle.std.specs.Prelude.{ℕ, ◌+◌, ◌*◌, ◌≤◌, ◌<◌, ◌≡�
 use Rattle.base.specs.Parts.{part}
 use Rattle.card.specs.Card.{Entry, entry, entries_of, entry_count}
 use Rattle.judge.specs.Sets.{conforms_to}
-use Rattle.card_reader.specs.Readings.{Serves}
+use Rattle.card_reader.specs.Readings.{Serves, unpacked}
 use Rattle.card_reader.specs.declared.TextReading.{TextReading}
 
 -- ---- the lists
@@ -27,14 +27,13 @@ entry_cell e = 32 + 8 * e
 -- what the text of the entry e reads to
 abbrev pub reading_at : List ℕ → List ℤ → ℕ → TextReading
 reading_at cells spans e =
-    record {
-      fits = true;
+    unpacked (record {
       form = get_or cells (entry_cell e + 4) 0;
       value = get_or cells (entry_cell e + 5) 0;
       unit = get_or cells (entry_cell e + 6) 0;
       start = get_or spans (2 * e) (pos 0);
       end = get_or spans (2 * e + 1) (pos 0);
-    }
+    })
 
 -- ---- the lists of a card
 

@@ -1,12 +1,13 @@
 -- What a text on a card reads to, in numbers.
 -- Assumes nothing.
-use Rattle.std.specs.Prelude.{ℕ, ◌%◌, ◌/◌, ◌≡◌, Bool, true, false, List, eqb, ℤ, pos, Option, Some, None}
+use Rattle.std.specs.Prelude.{ℕ, ◌+◌, ◌*◌, ◌%◌, ◌/◌, ◌≡◌, Bool, true, false, cond, List, eqb, ℤ, pos, Option, Some, None, is_some}
 use Rattle.number.specs.Reading as numbers
 use Rattle.number.specs.declared.Decimal.{Decimal}
 use Rattle.period.specs.Texts as periods
 use Rattle.period.specs.declared.Period.{Period}
 use Rattle.kind.specs.Readable.{card_readable}
 use Rattle.card_reader.specs.declared.TextReading.{TextReading}
+use Rattle.card_reader.specs.declared.Packed.{Packed}
 
 -- ---- the ends of a period in numbers, and back
 
@@ -31,12 +32,24 @@ decimal v u = record { digits = v; decimals = u }
 
 -- ---- what a text reads to
 
--- h has what the text t reads to in the form that it tells, so that the text need not be read again
-pub record Serves (t : List ℕ) (h : TextReading) : Type 0 where
-  pub number : h.form ≡ 1 → numbers.read t ≡ Some (decimal h.value h.unit)
-  pub span : h.form ≡ 2 → periods.read_span t ≡ Some (period_from h.unit h.start h.end)
+-- the text t reads to it
+pub data Serves (t : List ℕ) : TextReading → Type 0 where
+  serves_bytes : Serves t TextReading.Bytes
+  serves_number : {n : Decimal} → numbers.read t ≡ Some n → Serves t (TextReading.Number n)
+  serves_span : {p : Period} → periods.read_span t ≡ Some p → Serves t (TextReading.Span p)
 
--- h says whether t is readable as a kind, and what it reads to
-pub record ReadAs (kind : ℕ) (t : List ℕ) (h : TextReading) : Type 0 where
-  pub fits : h.fits ≡ card_readable kind t
-  pub serves : h.fits ≡ true → Serves t h
+-- r says whether t is readable as a kind, and what it reads to
+pub record ReadAs (kind : ℕ) (t : List ℕ) (r : Option TextReading) : Type 0 where
+  pub fits : is_some r ≡ card_readable kind t
+  pub serves : (h : TextReading) → r ≡ Some h → Serves t h
+
+-- ---- in whole numbers, as the lists keep it, and back
+
+unfoldable pub packed : TextReading → Packed
+packed TextReading.Bytes = record { form = 0; value = 0; unit = 0; start = pos 0; end = pos 0 }
+packed (TextReading.Number n) = record { form = 1; value = n.digits; unit = n.decimals; start = pos 0; end = pos 0 }
+packed (TextReading.Span p) = record { form = 2; value = 0; unit = open_bit p.start + 2 * open_bit p.end; start = instant_of p.start; end = instant_of p.end }
+
+unfoldable pub unpacked : Packed → TextReading
+unpacked h =
+    cond (eqb h.form 1) (TextReading.Number (decimal h.value h.unit)) (cond (eqb h.form 2) (TextReading.Span (period_from h.unit h.start h.end)) TextReading.Bytes)

@@ -6,7 +6,7 @@ use Rattle.card.specs.Card.{Entry, entry}
 use Rattle.card.specs.declared.Entry.{Entry as Span}
 use Rattle.kind.specs.Readable.{card_readable}
 use Rattle.card_reader.specs.Lists.{Lent, entry_cell, no_entry, IsKept, HoldsTo, BeginsAlike}
-use Rattle.card_reader.specs.declared.TextReading.{TextReading}
+use Rattle.card_reader.specs.declared.Packed.{Packed}
 
 pub record Put {A : Type 0} (n : ℕ) (l : List A) (at : ℕ) (v : A) (l' : List A) : Type 0 where
   pub is : l' ≡ set l at v
@@ -30,7 +30,7 @@ pub record Spanned (l : List ℤ) (e : ℕ) (a b : ℤ) (l' : List ℤ) : Type 0
   pub size : length l' ≡ 128
 
 -- all of one entry
-pub record Stored (e : ℕ) (x : Span) (h : TextReading) (cells : List ℕ) (spans : List ℤ) (cells' : List ℕ) (spans' : List ℤ) : Type 0 where
+pub record Stored (e : ℕ) (x : Span) (h : Packed) (cells : List ℕ) (spans : List ℤ) (cells' : List ℕ) (spans' : List ℤ) : Type 0 where
   pub first : List ℕ
   pub second : List ℕ
   pub linked : Linked cells x.index e first

@@ -44,10 +44,9 @@ fn take_entry(
     if cells[i] > 64 {
         return kind::card_readable(kind, text);
     }
-    let read = text_reading(kind, text);
-    if !read.fits {
+    let Some(read) = text_reading(kind, text) else {
         return false;
-    }
+    };
     store_entry(cells, spans, e, entry, read);
     true
 }

@@ -10,6 +10,7 @@
 mod entries;
 mod lending;
 mod listed;
+mod packing;
 mod readings;
 mod related;
 mod store;
@@ -18,13 +19,22 @@ pub use entries::read_entries;
 use kind::{Meaning, Readings};
 pub use lending::{keep, kind_at, lend};
 pub use listed::{chain_behind, chain_of, next_counting, occurrence_of, some_kept};
+use number::Decimal;
+use period::Period;
 
-// What a text on a card reads to: whether it is readable as its kind; in which form it is kept, 0 by its bytes, 1 as a number, 2 as a span of
-// time; a number's digits and, as its unit, its decimals; a span's ends in seconds and, as its unit, 1 where the start is missing and 2 where
-// the end is.
+// What a text on a card reads to: its bytes alone, a number, or a span of time.
 #[derive(Clone, Copy)]
-pub struct TextReading {
-    pub fits: bool,
+pub enum TextReading {
+    Bytes,
+    Number(Decimal),
+    Span(Period),
+}
+
+// How the lists keep it, in whole numbers, since they are memory that the caller lends: in which form, 0 by its bytes, 1 as a number, 2 as a
+// span; a number's digits and, as its unit, its decimals; a span's ends in seconds and, as its unit, 1 where the start is missing and 2
+// where the end is.
+#[derive(Clone, Copy)]
+pub struct Packed {
     pub form: u64,
     pub value: u64,
     pub unit: u64,

@@ -8,9 +8,10 @@ ghost use Rattle.card_reader.specs.Lists.{entry_cell, no_entry, reading_at, Hold
 ghost use Rattle.card_reader.specs.Listed.{entry_counts, OnChain, FirstFrom};
 
 use crate::lending::widest;
+use crate::packing::unpacked;
 use crate::related::reading_counts;
 use crate::store::wide;
-use crate::{Question, TextReading};
+use crate::{Packed, Question, TextReading};
 use block::Validity;
 use judge::Chosen;
 
@@ -32,14 +33,13 @@ fn reading_at(cells: &[u64], spans: &[i64], e: usize) -> TextReading
     ensures { result ≡ reading_at cells.now spans.now e }
 {
     let cell = 32 + 8 * e;
-    TextReading {
-        fits: true,
+    unpacked(Packed {
         form: cells[cell + 4],
         value: cells[cell + 5],
         unit: cells[cell + 6],
         start: spans[2 * e],
         end: spans[2 * e + 1],
-    }
+    })
 }
 
 // Whether the entry e counts for a test.

@@ -1,8 +1,10 @@
 // The cells of an entry.
 ghost use Rattle.std.specs.Prelude.{◌≡◌, ◌<◌, ◌≤◌, length};
 ghost use Rattle.card_reader.specs.Storing.{Put, Linked, Placed, Valued, Spanned, Stored};
+ghost use Rattle.card_reader.specs.Readings as readings;
 
 use crate::TextReading;
+use crate::packing::packed;
 use card::Entry;
 
 // The byte as an index.
@@ -82,10 +84,11 @@ pub fn store_entry(cells: &mut [u64], spans: &mut [i64], e: usize, entry: Entry,
     requires spans_len { length spans.old ≡ 128 }
     requires index_bound { entry.index < 32 }
     requires e_bound { e < 64 }
-    ensures { Stored e entry read cells.old spans.old cells.new spans.new }
+    ensures { Stored e entry (readings.packed read) cells.old spans.old cells.new spans.new }
 {
     link(cells, wide(entry.index), e);
     place(cells, e, entry.occurrence, entry.start, entry.end);
+    let read = packed(read);
     value(cells, e, read.form, read.value, read.unit);
     span(spans, e, read.start, read.end);
 }

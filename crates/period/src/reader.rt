@@ -8,7 +8,7 @@ use crate::Period;
 use date::Date;
 
 // A card's date: the period with both ends known.
-fn known(d: Date) -> Period
+pub fn known(d: Date) -> Period
     ensures { result ≡ known d }
 {
     Period {

@@ -1,6 +1,5 @@
 -- `card_reader::entries::take_entry` meets its contract. Assumes nothing.
 use borrow.Author.Rules.{rules}
-use borrow.Author.Tests.{not-true, not-false}
 use Rattle.card_reader.proofs.Reading.{takes_past, takes_over, takes_misfit, takes_stored}
 use Rattle.card_reader.proofs.entries.take_entry.Goals as goal
 
@@ -10,8 +9,8 @@ returns-then-i-ge32 c = search (takes_past, rules)
 pub returns-then-cells-i-gt64 : goal.returns-then-cells-i-gt64
 returns-then-cells-i-gt64 c = search (takes_over, rules)
 
-pub returns-then-not-read : goal.returns-then-not-read
-returns-then-not-read c = search (takes_misfit, not-true, rules)
+pub returns-in_default : goal.returns-in_default
+returns-in_default c = search (takes_misfit, rules)
 
 pub returns : goal.returns
-returns c = search (takes_stored, not-false, rules)
+returns c = search (takes_stored, rules)

@@ -3,8 +3,8 @@ use borrow.Author.Rules.{rules}
 use Rattle.card_reader.proofs.TextReadings.{number_read, number-unread}
 use Rattle.card_reader.proofs.readings.number_reading.Goals as goal
 
-pub returns-in-Some : goal.returns-in-Some
-returns-in-Some c = search (number_read, rules)
+pub returns-in_err-n : goal.returns-in_err-n
+returns-in_err-n c = search (number-unread, rules)
 
-pub returns-in-None : goal.returns-in-None
-returns-in-None c = search (number-unread, rules)
+pub returns : goal.returns
+returns c = number_read _ _ c.read.ensures _ c.in_ok-n.was

@@ -1,7 +1,7 @@
--- `card_reader::readings::open_bit` meets its contract. Assumes nothing.
+-- `card_reader::packing::open_bit` meets its contract. Assumes nothing.
 use borrow.Author.Rules.{rules}
 use Rattle.card_reader.proofs.TextReadings.{bit_open, bit-known}
-use Rattle.card_reader.proofs.readings.open_bit.Goals as goal
+use Rattle.card_reader.proofs.packing.open_bit.Goals as goal
 
 pub returns-in-None : goal.returns-in-None
 returns-in-None c = search (bit_open, rules)

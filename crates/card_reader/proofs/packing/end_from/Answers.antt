@@ -1,7 +1,7 @@
--- `card_reader::related::end_from` meets its contract. Assumes nothing.
+-- `card_reader::packing::end_from` meets its contract. Assumes nothing.
 use borrow.Author.Rules.{rules}
 use Rattle.card_reader.proofs.Relating.{end_open, end_known}
-use Rattle.card_reader.proofs.related.end_from.Goals as goal
+use Rattle.card_reader.proofs.packing.end_from.Goals as goal
 
 pub returns-then-missing : goal.returns-then-missing
 returns-then-missing c = search (end_open, rules)

@@ -1,7 +1,7 @@
--- `card_reader::readings::instant_of` meets its contract. Assumes nothing.
+-- `card_reader::packing::instant_of` meets its contract. Assumes nothing.
 use borrow.Author.Rules.{rules}
 use Rattle.card_reader.proofs.TextReadings.{instant_open, instant-known}
-use Rattle.card_reader.proofs.readings.instant_of.Goals as goal
+use Rattle.card_reader.proofs.packing.instant_of.Goals as goal
 
 pub returns-in-None : goal.returns-in-None
 returns-in-None c = search (instant_open, rules)
