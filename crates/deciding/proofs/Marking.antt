@@ -20,7 +20,7 @@ use Rattle.deciding.specs.Deciding.{outer_count}
 use Rattle.deciding.specs.Marks.{Mark, opposite, joined_marks, mark_by, mark_of}
 use Rattle.deciding.specs.Rows.{outline, marks_in, Single, single_test, single_bracket, Reading, Starts, FewRows, MarksFrom}
 use Rattle.deciding.specs.declared.Marked.{Marked}
-use Rattle.deciding.proofs.Parting.{all_states, no_test, no_bracket, no_unknown, reading_not, second_room, second-whole, second-size, reading-join}
+use Rattle.deciding.proofs.Parting.{all_states, no_other, reading_not, second_room, second-whole, second-size, reading-join}
 
 pub mark-behind : (marks : List ℕ) (i : ℕ) → length marks ≤ i → 0 ≡ get_or marks i 0
 mark-behind marks i l = sym (get_or-eq_default marks 0 l)
@@ -70,14 +70,8 @@ module _ (rows marks : List ℕ) (first at m next : ℕ) (k : Marking rows marks
 
   module _ (l : at < length rows) (r : Row) (i : r ≡ row_of (get_or rows at 0)) where
     -- rows that nothing joins are not there
-    pub marking_test : (p : Probe) → r ≡ Row.Test p → MarksFrom rows marks first (record { mark = m; next = next })
-    marking_test p j = no_test w at k.expression k.reading l r i p j
-
-    pub marking_bracket : (n : ℕ) → r ≡ Row.Bracket n → MarksFrom rows marks first (record { mark = m; next = next })
-    marking_bracket n j = no_bracket w at k.expression k.reading l r i n j
-
-    pub marking_unknown : r ≡ Row.Unknown → MarksFrom rows marks first (record { mark = m; next = next })
-    marking_unknown j = no_unknown w at k.expression k.reading l r i j
+    pub marking_other : (r ≡ Row.Not → ⊥) → ((c : Connective) (n : ℕ) → r ≡ Row.Connect c n → ⊥) → MarksFrom rows marks first (record { mark = m; next = next })
+    marking_other t u = no_other w at k.expression k.reading l r i t u
 
     pub marking_not : (n : ℕ) → r ≡ Row.Not → mark_of n ≡ opposite (mark_of m) → Marking rows marks first (at + 1) n next
     unfolding tree_of mark_by outer_count

@@ -3,7 +3,7 @@
 use Prim.Native.Nat.{ℕ, suc, ◌+◌, ◌-◌, ◌≤◌, ◌<◌}
 use native.Mathlib.Omega.{arith}
 use mathlib.Core.Path.{◌≡◌, refl, sym, ap, ap₂, subst, ◌∙◌}
-use mathlib.Core.Option.{some, none-ne-some}
+use mathlib.Core.Option.{none, some, none-ne-some}
 use mathlib.Core.List.{List, [], ◌∷◌, ◌++◌}
 use lib.ListN.{length, get_or, take, drop, length-append, length-drop}
 use lib.Seq.{drop-cons, drop-drop, drop-length, take_at}
@@ -50,14 +50,16 @@ module _ {rows : List ℕ} (w : Whole rows) where
       next : (p : Row) → r ≡ p → stated rows ≡ next_row (λ n f. on_from stated n f behind) stated e behind p
       next p j = s.rest ∙ ap (on_from stated 0 e) (drop-cons rows at 0 l) ∙ on_row stated e (get_or rows at 0) behind p (sym i ∙ j)
 
-      pub no_test : {A : Type 0} (p : Probe) → r ≡ Row.Test p → A
-      no_test p j = absurd (none-ne-some _ (sym (next (Row.Test p) j) ∙ w.states))
-
-      pub no_bracket : {A : Type 0} (n : ℕ) → r ≡ Row.Bracket n → A
-      no_bracket n j = absurd (none-ne-some _ (sym (next (Row.Bracket n) j) ∙ w.states))
-
-      pub no_unknown : {A : Type 0} → r ≡ Row.Unknown → A
-      no_unknown j = absurd (none-ne-some _ (sym (next Row.Unknown j) ∙ w.states))
+      -- no other row is there than not and a connective
+      pub no_other : {A : Type 0} → (r ≡ Row.Not → ⊥) → ((c : Connective) (n : ℕ) → r ≡ Row.Connect c n → ⊥) → A
+      no_other no_not no_connect = absurd (none-ne-some _ (sym (by_row r refl) ∙ w.states))
+        where
+          by_row : (p : Row) → r ≡ p → stated rows ≡ none
+          by_row (Row.Test p) j = next (Row.Test p) j
+          by_row (Row.Bracket n) j = next (Row.Bracket n) j
+          by_row Row.Not j = absurd (no_not j)
+          by_row (Row.Connect c n) j = absurd (no_connect c n j)
+          by_row Row.Unknown j = next Row.Unknown j
 
       pub reading_not : r ≡ Row.Not → Reading rows (at + 1) (negating e)
       reading_not j =
@@ -105,19 +107,24 @@ module _ {rows : List ℕ} (w : Whole rows) where
         let split : rows ≡ get_or rows 0 0 ∷ drop 1 rows = drop-cons rows 0 0 (omega (arith, whole_some)) in
         stated-step rows ∙ ap (whole_by stated) split ∙ ap (by_first stated (drop 1 rows)) (sym i ∙ j)
 
-    pub starts_not : (at : ℕ) → r ≡ Row.Not → Starts rows at
-    starts_not at j = absurd (none-ne-some _ (sym (first_step Row.Not j) ∙ w.states))
-
-    pub starts_connect : (at : ℕ) (c : Connective) (n : ℕ) → r ≡ Row.Connect c n → Starts rows at
-    starts_connect at c n j = absurd (none-ne-some _ (sym (first_step (Row.Connect c n) j) ∙ w.states))
-
-    pub starts_unknown : (at : ℕ) → r ≡ Row.Unknown → Starts rows at
-    starts_unknown at j = absurd (none-ne-some _ (sym (first_step Row.Unknown j) ∙ w.states))
-
-    pub starts_test : (p : Probe) → r ≡ Row.Test p → Starts rows 1
+    starts_test : (p : Probe) → r ≡ Row.Test p → Starts rows 1
     starts_test p j =
         let sayable : Sayable p = subst RowSayable (sym i ∙ j) (row_sayable (get_or rows 0 0)) in
         record { expression = probing p; single = single_test; reading = record { within = whole_some; writable = writable_test sayable; rest = first_step (Row.Test p) j }; some_rows = omega arith }
+
+    -- rows begin with a test or with brackets
+    pub starts_other : ((n : ℕ) → r ≡ Row.Bracket n → ⊥) → Starts rows 1
+    starts_other no_bracket = by_row r refl
+      where
+        none_stated : (p : Row) → r ≡ p → by_first stated (drop 1 rows) p ≡ none → Starts rows 1
+        none_stated p j k = absurd (none-ne-some _ (sym (first_step p j ∙ k) ∙ w.states))
+
+        by_row : (p : Row) → r ≡ p → Starts rows 1
+        by_row (Row.Test p) j = starts_test p j
+        by_row (Row.Bracket n) j = absurd (no_bracket n j)
+        by_row Row.Not j = none_stated Row.Not j refl
+        by_row (Row.Connect c n) j = none_stated (Row.Connect c n) j refl
+        by_row Row.Unknown j = none_stated Row.Unknown j refl
 
     starts_bracket : (n : ℕ) → r ≡ Row.Bracket n → (n + 2 ≤ length rows) × Starts rows (n + 2)
     starts_bracket n j = by_rest (drop 1 rows) refl

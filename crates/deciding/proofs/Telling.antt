@@ -31,7 +31,7 @@ use Rattle.deciding.specs.Rows.{outline, outer_verdicts, Single, single_test, si
 use Rattle.deciding.proofs.Numbered.{get_d_after}
 use Rattle.deciding.proofs.Outer.{outer_tests_lem, verdicts-size}
 use Rattle.deciding.proofs.Marking.{single_count}
-use Rattle.deciding.proofs.Parting.{part_states, part-whole, all_states, no_test, no_bracket, no_unknown, reading_not, second_room, second-whole, second-size, reading-join}
+use Rattle.deciding.proofs.Parting.{part_states, part-whole, all_states, no_other, reading_not, second_room, second-whole, second-size, reading-join}
 
 -- ---- what rows say
 
@@ -140,14 +140,8 @@ module _ (kinds xs : List ℕ) (es : List Entry) (rows : List ℕ) (first at nex
 
   module _ (l : at < length rows) (r : Row) (i : r ≡ row_of (get_or rows at 0)) where
     -- rows that nothing joins are not there
-    pub gathering_test : (p : Probe) → r ≡ Row.Test p → Gathers kinds xs es rows first next before between
-    gathering_test p j = no_test w at g.expression g.reading l r i p j
-
-    pub gathering_bracket : (n : ℕ) → r ≡ Row.Bracket n → Gathers kinds xs es rows first next before between
-    gathering_bracket n j = no_bracket w at g.expression g.reading l r i n j
-
-    pub gathering_unknown : r ≡ Row.Unknown → Gathers kinds xs es rows first next before between
-    gathering_unknown j = no_unknown w at g.expression g.reading l r i j
+    pub gathering_other : (r ≡ Row.Not → ⊥) → ((c : Connective) (n : ℕ) → r ≡ Row.Connect c n → ⊥) → Gathers kinds xs es rows first next before between
+    gathering_other t u = no_other w at g.expression g.reading l r i t u
 
     pub gathering_not : r ≡ Row.Not → Gathering kinds xs es rows first (at + 1) next before between
     unfolding tree_of outer_count outer_verdicts

@@ -68,11 +68,8 @@ pub fn after_first(rows: &[u32]) -> usize
     ensures { Starts rows.now result }
 {
     match row_of(rows[0]) {
-        Row::Test(_) => 1,
         Row::Bracket(size) => size + 2,
-        Row::Not => 1,
-        Row::Connect(_, _) => 1,
-        Row::Unknown => 1,
+        _ => 1,
     }
 }
 
@@ -99,15 +96,7 @@ fn mark_from(rows: &[u32], marks: &[u8], first: usize) -> Marked
                 next = second.next;
                 at = end;
             }
-            Row::Test(_) => {
-                return Marked { mark, next };
-            }
-            Row::Bracket(_) => {
-                return Marked { mark, next };
-            }
-            Row::Unknown => {
-                return Marked { mark, next };
-            }
+            _ => return Marked { mark, next },
         }
     }
     Marked { mark, next }

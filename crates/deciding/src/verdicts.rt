@@ -55,15 +55,7 @@ fn gather_rest(
                 next = gather_from(kinds, filter, &rows[start..end], card, marks, next);
                 at = end;
             }
-            Row::Test(_) => {
-                return next;
-            }
-            Row::Bracket(_) => {
-                return next;
-            }
-            Row::Unknown => {
-                return next;
-            }
+            _ => return next,
         }
     }
     next

@@ -60,26 +60,7 @@ pub struct Reached {
 fn item_over(mode: Mode) -> bool
     ensures { result ≡ item_over mode }
 {
-    match mode {
-        Mode::Item => false,
-        Mode::Name(_) => false,
-        Mode::AfterNot => false,
-        Mode::AfterName => false,
-        Mode::Letter(_) => false,
-        Mode::AfterOperator => false,
-        Mode::Value => false,
-        Mode::Bare => true,
-        Mode::Quoted(_) => false,
-        Mode::AfterItem => true,
-        Mode::AfterSpace => true,
-        Mode::AfterA => false,
-        Mode::AfterAn => false,
-        Mode::AfterO => false,
-        Mode::WantsSpace => false,
-        Mode::AfterSquare => false,
-        Mode::Member => false,
-        Mode::MemberName(_) => false,
-    }
+    matches!(mode, Mode::Bare | Mode::AfterItem | Mode::AfterSpace)
 }
 
 // Whether a filter may end there: an item has ended, and no bracket is open.

@@ -211,20 +211,14 @@ fn member_byte(s: &[u8], from: usize, at: usize, brackets: usize, tests: usize) 
 fn is_first(b: u8) -> bool
     ensures { result ≡ member b (ascii "cegns") }
 {
-    match b {
-        b'e' | b'n' | b'c' | b's' | b'g' => true,
-        _ => false,
-    }
+    matches!(b, b'e' | b'n' | b'c' | b's' | b'g')
 }
 
 // Whether it begins one of lt, le, ap, pr, po, in, re.
 fn is_other(b: u8) -> bool
     ensures { result ≡ member b (ascii "ailpr") }
 {
-    match b {
-        b'l' | b'a' | b'p' | b'i' | b'r' => true,
-        _ => false,
-    }
+    matches!(b, b'l' | b'a' | b'p' | b'i' | b'r')
 }
 
 // Whether an operator begins with the letter.

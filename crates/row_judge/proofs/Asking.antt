@@ -51,25 +51,13 @@ module _ (rows before : List ℕ) (spans : List ℤ) where
           by_place j z q y false t = k.others q.index (test_index (get_or rows j 0) (Row.Test q) q (sym y) refl) (inv.each j (omega (arith, z, eqb-false j i t)) q y)
 
       -- a row that is none
-      kept_none : ((p : Probe) → r ≡ Row.Test p → ⊥) → KeptTo rows before cells spans (i + 1)
+      pub kept_none : ((p : Probe) → r ≡ Row.Test p → ⊥) → KeptTo rows before cells spans (i + 1)
       kept_none n =
           record { lent = inv.lent; kinds_are = inv.kinds_are; each = λ j z q y. by_place j z q y (eqb j i) refl }
         where
           by_place : (j : ℕ) → j < i + 1 → (q : Probe) → row_of (get_or rows j 0) ≡ Row.Test q → (t : Bool) → eqb j i ≡ t → get_or cells (544 + q.index) 0 ≡ 0
           by_place j z q y true t = absurd (n q (e ∙ ap (λ (m : ℕ). row_of (get_or rows m 0)) (sym (eqb-true j i t)) ∙ y))
           by_place j z q y false t = inv.each j (omega (arith, z, eqb-false j i t)) q y
-
-      pub kept_bracket : (n : ℕ) → r ≡ Row.Bracket n → KeptTo rows before cells spans (i + 1)
-      kept_bracket n h = kept_none (λ p k. let z : ◌≡◌ {A = ℕ} 0 1 = cc in omega arith)
-
-      pub kept_not : r ≡ Row.Not → KeptTo rows before cells spans (i + 1)
-      kept_not h = kept_none (λ p k. let z : ◌≡◌ {A = ℕ} 0 1 = cc in omega arith)
-
-      pub kept_connect : (c : Connective) (n : ℕ) → r ≡ Row.Connect c n → KeptTo rows before cells spans (i + 1)
-      kept_connect c n h = kept_none (λ p k. let z : ◌≡◌ {A = ℕ} 0 1 = cc in omega arith)
-
-      pub kept_unknown : r ≡ Row.Unknown → KeptTo rows before cells spans (i + 1)
-      kept_unknown h = kept_none (λ p k. let z : ◌≡◌ {A = ℕ} 0 1 = cc in omega arith)
 
 -- ---- the lists of a run
 

@@ -11,25 +11,9 @@ fn keep_tests(rows: &[u32], cells: &mut [u64], spans: &[i64])
     requires { Lent cells.old spans.now }
     ensures { KeepsTests rows.now cells.old cells.new spans.now }
 {
-    let mut i = 0;
-    while i < rows.len() {
-        match row_of(rows[i]) {
-            Row::Test(probe) => {
-                keep(cells, spans, probe.index);
-                i += 1;
-            }
-            Row::Bracket(_) => {
-                i += 1;
-            }
-            Row::Not => {
-                i += 1;
-            }
-            Row::Connect(_, _) => {
-                i += 1;
-            }
-            Row::Unknown => {
-                i += 1;
-            }
+    for &cell in rows {
+        if let Row::Test(probe) = row_of(cell) {
+            keep(cells, spans, probe.index);
         }
     }
 }

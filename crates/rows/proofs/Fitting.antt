@@ -77,16 +77,3 @@ module _ (kinds parents xs : List ℕ) (p : Probe) (f : Bool) (e : f ≡ probe_f
   pub member_not : f ≡ false → (d : ℕ) (q : Row) → q ≡ row_of d → q ≡ Row.Test p → 0 ≡ member_by kinds parents xs (row_of d)
   unfolding member_of
   member_not h d q i j = rw (sym i ∙ j, sym e ∙ h)
-
-module _ (kinds parents xs : List ℕ) (d : ℕ) (q : Row) (i : q ≡ row_of d) where
-  pub no_member_bracket : (n : ℕ) → q ≡ Row.Bracket n → 0 ≡ member_by kinds parents xs (row_of d)
-  no_member_bracket n j = ap (member_by kinds parents xs) (sym j ∙ i)
-
-  pub no_member_not : q ≡ Row.Not → 0 ≡ member_by kinds parents xs (row_of d)
-  no_member_not j = ap (member_by kinds parents xs) (sym j ∙ i)
-
-  pub no_member_connect : (k : Connective) (n : ℕ) → q ≡ Row.Connect k n → 0 ≡ member_by kinds parents xs (row_of d)
-  no_member_connect k n j = ap (member_by kinds parents xs) (sym j ∙ i)
-
-  pub no_member_unknown : q ≡ Row.Unknown → 0 ≡ member_by kinds parents xs (row_of d)
-  no_member_unknown j = ap (member_by kinds parents xs) (sym j ∙ i)

@@ -182,14 +182,15 @@ module _ (kinds parents xs : List ℕ) (c k : ℕ) where
       no_more : (p : Row) → q ≡ p → Misfit fits (next_row (λ n f. on_from inner n f behind) inner s.expression behind p) → None ≡ shape_by fits (stated_in (suc k) rows)
       no_more p j m = misfit_nothing fits (stated_in (suc k) rows) (misfit_same fits (stated_in (suc k) rows) (next_row (λ n f. on_from inner n f behind) inner s.expression behind p) (next p j) m)
 
-      pub hand_test : (p : Probe) → q ≡ Row.Test p → None ≡ shape_by fits (stated_in (suc k) rows)
-      hand_test p j = no_more (Row.Test p) j (misfit_none fits none refl)
-
-      pub hand_bracket : (n : ℕ) → q ≡ Row.Bracket n → None ≡ shape_by fits (stated_in (suc k) rows)
-      hand_bracket n j = no_more (Row.Bracket n) j (misfit_none fits none refl)
-
-      pub hand_unknown : q ≡ Row.Unknown → None ≡ shape_by fits (stated_in (suc k) rows)
-      hand_unknown j = no_more Row.Unknown j (misfit_none fits none refl)
+      pub hand_other : (q ≡ Row.Not → ⊥) → ((o : Connective) (n : ℕ) → q ≡ Row.Connect o n → ⊥) → None ≡ shape_by fits (stated_in (suc k) rows)
+      hand_other t b = by_row q refl
+        where
+          by_row : (p : Row) → q ≡ p → None ≡ shape_by fits (stated_in (suc k) rows)
+          by_row (Row.Test p) j = no_more (Row.Test p) j (misfit_none fits none refl)
+          by_row (Row.Bracket n) j = no_more (Row.Bracket n) j (misfit_none fits none refl)
+          by_row Row.Not j = absurd (t j)
+          by_row (Row.Connect o n) j = absurd (b o n j)
+          by_row Row.Unknown j = no_more Row.Unknown j (misfit_none fits none refl)
 
       pub hand_not : (r : Shape) → q ≡ Row.Not → r ≡ deeper_shape shape 0 → InHand kinds parents xs c k rows (at + 1) r
       unfolding shape_of fits_in
@@ -291,14 +292,15 @@ module _ (kinds parents xs : List ℕ) (c k : ℕ) where
               few_levels = omega arith;
             })
 
-      pub first_not : q ≡ Row.Not → Began kinds parents xs c k rows None
-      first_not j = no_first Row.Not (sym i ∙ j) (misfit_none fits none refl)
-
-      pub first_connect : (o : Connective) (n : ℕ) → q ≡ Row.Connect o n → Began kinds parents xs c k rows None
-      first_connect o n j = no_first (Row.Connect o n) (sym i ∙ j) (misfit_none fits none refl)
-
-      pub first_unknown : q ≡ Row.Unknown → Began kinds parents xs c k rows None
-      first_unknown j = no_first Row.Unknown (sym i ∙ j) (misfit_none fits none refl)
+      pub first_other : ((p : Probe) → q ≡ Row.Test p → ⊥) → ((n : ℕ) → q ≡ Row.Bracket n → ⊥) → Began kinds parents xs c k rows None
+      first_other t b = by_row q refl
+        where
+          by_row : (p : Row) → q ≡ p → Began kinds parents xs c k rows None
+          by_row (Row.Test p) j = absurd (t p j)
+          by_row (Row.Bracket n) j = absurd (b n j)
+          by_row Row.Not j = no_first Row.Not (sym i ∙ j) (misfit_none fits none refl)
+          by_row (Row.Connect o n) j = no_first (Row.Connect o n) (sym i ∙ j) (misfit_none fits none refl)
+          by_row Row.Unknown j = no_first Row.Unknown (sym i ∙ j) (misfit_none fits none refl)
 
       -- there are no brackets in brackets
       pub first-inside : (n : ℕ) → q ≡ Row.Bracket n → 0 < c → Began kinds parents xs c k rows None

@@ -95,9 +95,6 @@ pub fn member_of(kinds: &[u8], parents: &[u8], filter: &[u8], cell: u32) -> u8
             }
             0
         }
-        Row::Bracket(_) => 0,
-        Row::Not => 0,
-        Row::Connect(_, _) => 0,
-        Row::Unknown => 0,
+        _ => 0,
     }
 }

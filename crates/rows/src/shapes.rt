@@ -117,9 +117,7 @@ fn shape_of_first(
             }
             shape_in_brackets(kinds, parents, filter, rows, size, calls)
         }
-        Row::Not => None,
-        Row::Connect(_, _) => None,
-        Row::Unknown => None,
+        _ => None,
     }
 }
 
@@ -160,15 +158,7 @@ fn shape_with(
                 shape = joined(shape, second);
                 at = end;
             }
-            Row::Test(_) => {
-                return None;
-            }
-            Row::Bracket(_) => {
-                return None;
-            }
-            Row::Unknown => {
-                return None;
-            }
+            _ => return None,
         }
     }
     Some(shape)

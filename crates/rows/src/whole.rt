@@ -20,13 +20,8 @@ pub fn are_good(kinds: &[u8], parents: &[u8], filter: &[u8], rows: &[u32]) -> bo
     if rows.len() > MOST_ROWS {
         return false;
     }
-    match shape_of(kinds, parents, filter, rows, 0, MOST_CALLS) {
-        Some(shape) => {
-            if shape.tests > 32 {
-                return false;
-            }
-            shape.chain <= 8
-        }
-        None => false,
-    }
+    let Some(shape) = shape_of(kinds, parents, filter, rows, 0, MOST_CALLS) else {
+        return false;
+    };
+    shape.tests <= 32 && shape.chain <= 8
 }

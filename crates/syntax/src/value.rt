@@ -39,10 +39,7 @@ fn bare_end(s: &[u8], at: usize) -> usize
 fn is_escape(b: u8) -> bool
     ensures { result ≡ is_escape b }
 {
-    match b {
-        b'"' | b'\\' | b'/' | b'b' | b'f' | b'n' | b'r' | b't' => true,
-        _ => false,
-    }
+    matches!(b, b'"' | b'\\' | b'/' | b'b' | b'f' | b'n' | b'r' | b't')
 }
 
 // What a backslash and the byte stand for.

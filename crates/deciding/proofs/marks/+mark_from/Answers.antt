@@ -1,7 +1,7 @@
 -- `deciding::marks::mark_from` meets its contract. The loop keeps `Marking`: the expression in hand before the row has this mark, and the rows state
 use borrow.Author.Rules.{rules}
-use Rattle.deciding.proofs.Marking.{marking_start, marking_not, marking_room, marking_fits, marking_falls, marking_second, marking_join, marking_test}
-use Rattle.deciding.proofs.Marking.{marking_bracket, marking_unknown, marking_end}
+use Rattle.deciding.proofs.Marking.{marking_start, marking_not, marking_room, marking_fits, marking_falls, marking_second, marking_join, marking_other}
+use Rattle.deciding.proofs.Marking.{marking_end}
 use Rattle.deciding.proofs.marks.+mark_from.Goals as goal
 
 pub loop-at-init : goal.loop-at-init
@@ -22,14 +22,8 @@ mark_from-second-requires t c = (search (marking_falls, rules), search (marking_
 pub loop-at-preserved : goal.loop-at-preserved
 loop-at-preserved t c = search (marking_join, rules)
 
-pub returns-in-Test : goal.returns-in-Test
-returns-in-Test t c = search (marking_test, rules)
-
-pub returns-in-Bracket : goal.returns-in-Bracket
-returns-in-Bracket t c = search (marking_bracket, rules)
-
-pub returns-in-Unknown : goal.returns-in-Unknown
-returns-in-Unknown t c = search (marking_unknown, rules)
+pub returns-in_default : goal.returns-in_default
+returns-in_default t c = search (marking_other, rules)
 
 pub returns : goal.returns
 returns t c = search (marking_end, rules)

@@ -3,8 +3,8 @@ use borrow.Author.Rules.{rules}
 use native.Mathlib.Omega.{arith}
 use lib.ListN.{length-take}
 use Rattle.deciding.proofs.Telling.{room_here, first-whole, first_few, gathering_start, gathered_size, gathered_from, begun_fits}
-use Rattle.deciding.proofs.Telling.{gathering_not, gathering_room, gathering_fits, gathering_falls, gathering_second, gathering_join, gathering_test}
-use Rattle.deciding.proofs.Telling.{gathering_bracket, gathering_unknown, gathering_end}
+use Rattle.deciding.proofs.Telling.{gathering_not, gathering_room, gathering_fits, gathering_falls, gathering_second, gathering_join, gathering_other}
+use Rattle.deciding.proofs.Telling.{gathering_end}
 use Rattle.deciding.proofs.verdicts.+gathering.Goals as goal
 
 pub gather_from-slice_bounds-verdict-end : goal.gather_from-slice_bounds-verdict-end
@@ -49,14 +49,8 @@ gather_rest-gather_from-next-requires t c = (search (gathering_falls, rules), (s
 pub gather_rest-loop-at-preserved : goal.gather_rest-loop-at-preserved
 gather_rest-loop-at-preserved t c = record { ready = search rules; gathering = search (gathering_join, rules) }
 
-pub gather_rest-returns-in-Test : goal.gather_rest-returns-in-Test
-gather_rest-returns-in-Test t c = search (gathering_test, rules)
-
-pub gather_rest-returns-in-Bracket : goal.gather_rest-returns-in-Bracket
-gather_rest-returns-in-Bracket t c = search (gathering_bracket, rules)
-
-pub gather_rest-returns-in-Unknown : goal.gather_rest-returns-in-Unknown
-gather_rest-returns-in-Unknown t c = search (gathering_unknown, rules)
+pub gather_rest-returns-in_default : goal.gather_rest-returns-in_default
+gather_rest-returns-in_default t c = search (gathering_other, rules)
 
 pub gather_rest-returns : goal.gather_rest-returns
 gather_rest-returns t c = search (gathering_end, rules)

@@ -1,7 +1,7 @@
 -- `rows::fit::member_of` meets its contract. Assumes nothing.
 use borrow.Author.Rules.{rules}
 use Rattle.rows.proofs.Cells.{test_index}
-use Rattle.rows.proofs.Fitting.{member-fits, member_not, no_member_bracket, no_member_not, no_member_connect, no_member_unknown}
+use Rattle.rows.proofs.Fitting.{member-fits, member_not}
 use Rattle.rows.proofs.fit.member_of.Goals as goal
 
 pub probe_fits-requires-clause-index_bound : goal.probe_fits-requires-clause-index_bound
@@ -15,15 +15,3 @@ returns-then-probe_fits c = search (member-fits, rules)
 
 pub returns-else-probe_fits : goal.returns-else-probe_fits
 returns-else-probe_fits c = search (member_not, rules)
-
-pub returns-in-Bracket : goal.returns-in-Bracket
-returns-in-Bracket c = search (no_member_bracket, rules)
-
-pub returns-in-Not : goal.returns-in-Not
-returns-in-Not c = search (no_member_not, rules)
-
-pub returns-in-Connect : goal.returns-in-Connect
-returns-in-Connect c = search (no_member_connect, rules)
-
-pub returns-in-Unknown : goal.returns-in-Unknown
-returns-in-Unknown c = search (no_member_unknown, rules)

@@ -1,8 +1,8 @@
 -- `rows::shapes::shape_of` and what it calls in a cycle meet their contracts: the calls that are left fall. The loop keeps `InHand`.
 use native.Mathlib.Omega.{arith}
 use Rattle.rows.proofs.Cells.{test_index}
-use Rattle.rows.proofs.Reading.{part_few, tests_few, levels_few, brackets_few, hand_few_tests, hand_few_levels, hand_end, hand_test, hand_bracket, hand_unknown, hand_not, hand_large, hand_nothing, hand_join}
-use Rattle.rows.proofs.Reading.{first_misfits, first_fits, first-inside, first_bracket, first_not, first_connect, first_unknown, brackets_short, brackets_large, brackets_no_member, brackets_nothing, brackets_found, no_calls, no_rows, began_hand, began_none, began_read}
+use Rattle.rows.proofs.Reading.{part_few, tests_few, levels_few, brackets_few, hand_few_tests, hand_few_levels, hand_end, hand_other, hand_not, hand_large, hand_nothing, hand_join}
+use Rattle.rows.proofs.Reading.{first_misfits, first_fits, first-inside, first_bracket, first_other, brackets_short, brackets_large, brackets_no_member, brackets_nothing, brackets_found, no_calls, no_rows, began_hand, began_none, began_read}
 use borrow.Author.Rules.{rules}
 use mathlib.Core.Path.{◌∙◌}
 use Rattle.rows.proofs.shapes.+shapes.Goals as goal
@@ -67,15 +67,6 @@ shape_of_first-returns-else-stands t c = search (first_misfits, rules)
 pub shape_of_first-returns-else-scope-gt0 : goal.shape_of_first-returns-else-scope-gt0
 shape_of_first-returns-else-scope-gt0 t c = search (first_bracket, rules)
 
-pub shape_of_first-returns-in-Not : goal.shape_of_first-returns-in-Not
-shape_of_first-returns-in-Not t c = search (first_not, rules)
-
-pub shape_of_first-returns-in-Connect : goal.shape_of_first-returns-in-Connect
-shape_of_first-returns-in-Connect t c = search (first_connect, rules)
-
-pub shape_of_first-returns-in-Unknown : goal.shape_of_first-returns-in-Unknown
-shape_of_first-returns-in-Unknown t c = search (first_unknown, rules)
-
 pub shape_with-deeper-shape-requires-clause-tests_bound : goal.shape_with-deeper-shape-requires-clause-tests_bound
 shape_with-deeper-shape-requires-clause-tests_bound t c = search (hand_few_tests, rules)
 
@@ -109,14 +100,11 @@ shape_with-loop-at-preserved t c = search (hand_join, rules)
 pub shape_with-returns-in_err-second-in-Connect : goal.shape_with-returns-in_err-second-in-Connect
 shape_with-returns-in_err-second-in-Connect t c = c.from_residual.ensures ∙ hand_nothing _ _ _ _ _ _ _ _ c.loop-at.invariant (search rules) _ c.row_of.ensures _ _ c.in-Connect.is (search rules) _ c.shape_of.ensures c.in_err-second-in-Connect.was
 
-pub shape_with-returns-in-Test : goal.shape_with-returns-in-Test
-shape_with-returns-in-Test t c = search (hand_test, rules)
-
-pub shape_with-returns-in-Bracket : goal.shape_with-returns-in-Bracket
-shape_with-returns-in-Bracket t c = search (hand_bracket, rules)
-
-pub shape_with-returns-in-Unknown : goal.shape_with-returns-in-Unknown
-shape_with-returns-in-Unknown t c = search (hand_unknown, rules)
-
 pub shape_with-returns : goal.shape_with-returns
 shape_with-returns t c = search (hand_end, rules)
+
+pub shape_of_first-returns-in_default : goal.shape_of_first-returns-in_default
+shape_of_first-returns-in_default t c = search (first_other, rules)
+
+pub shape_with-returns-in_default : goal.shape_with-returns-in_default
+shape_with-returns-in_default t c = search (hand_other, rules)
