@@ -33,8 +33,9 @@ const WORDS: [&str; 20] = [
 /// The libraries that come with the prover; what is called `Rattle.NAME..` otherwise is a crate of the repository.
 const LIBRARIES: [&str; 4] = ["core", "std", "std_alloc", "std_collections"];
 
-/// The types of the code that need no declaration.
-const PRIMITIVE: [&str; 11] = ["u8", "u16", "u32", "u64", "usize", "i8", "i16", "i32", "i64", "isize", "bool"];
+/// The types of the code that need no declaration: those of the language and of its library.
+const PRIMITIVE: [&str; 13] =
+    ["u8", "u16", "u32", "u64", "usize", "i8", "i16", "i32", "i64", "isize", "bool", "Option", "Result"];
 
 /// What a name refers to.
 #[derive(Debug, Clone, PartialEq, Eq, PartialOrd, Ord)]
