@@ -18,7 +18,6 @@ use Rattle.syntax.specs.Reader.{parsed, filter_at, whole, read}
 use Rattle.syntax.proofs.Whole.{whole_trails, whole_many, whole_few}
 use Rattle.place.specs.Machine.{failure}
 use Rattle.filter.specs.Folds.{summary_of, reading, walked}
-
 use Rattle.filter.specs.Walks.{top_spot, answer_of}
 use Rattle.filter.specs.declared.Spot.{Spot}
 use Rattle.filter.specs.declared.Summary.{Summary}
