@@ -19,9 +19,8 @@ use mir.Val.{Fits, SFits, to_z, of_z}
 use mir.ValLaws.{to_z-of_z, to_z_pos}
 use borrow.Author.Tests.{eq-eqb, ne_eqb, lt-ltb, le-ltb, le-leb, lt-leb, ltb-true}
 use Rattle.base.specs.Digits.{is_digit}
-use Rattle.base.proofs.Digits.{digit_low}
 use Rattle.base.proofs.Integers.{nat_abs_neg, mag_less}
-use Rattle.base.proofs.Tests.{answered, cond-elim}
+use Rattle.base.proofs.Tests.{cond-elim}
 use Rattle.date.specs.Calendar.{leap_year, year_length, month_length, day_number}
 use Rattle.date.specs.Fields.{valid_year, valid_month, valid_day, valid_time, valid_zone, ValidOffset}
 use Rattle.date.specs.Spans.{days_from, second_of_day, second_from, year_date, month_date, day_date, second_date}
@@ -35,9 +34,6 @@ use Rattle.date.proofs.Spans.{offset_back}
 
 module _ (b : ℕ) {p : Bool} (e : p ≡ is_digit b) where
   module _ {n : ℕ} (h : p ≡ true) (f : n ≡ b) where
-    pub digit_least : 48 ≤ n
-    digit_least = rw f (digit_low b (answered e h))
-
     pub digit_value : n - 48 ≡ digit_of b
     unfolding digit_of
     digit_value = rw (← e, h, f)

@@ -7,11 +7,12 @@ ghost use Rattle.date.specs.Texts.{digit_of, pair, two_at, four_at, field_at, si
 use crate::{Date, days, seconds};
 
 // The number that a digit writes; 10 where the byte is no digit.
+#[tactic(auto, unfolding(crate::specs::Texts::digit_of, base::specs::Digits::is_digit))]
 fn digit_of(b: u8) -> u64
     ensures { result ≡ digit_of b }
 {
-    if base::is_digit(b) {
-        return u64::from(b) - 48;
+    if b.is_ascii_digit() {
+        return u64::from(b - b'0');
     }
     10
 }
@@ -21,11 +22,8 @@ fn pair(radix: u64, a: u64, b: u64) -> u64
     requires { radix ≤ 100 }
     ensures { result ≡ pair radix a b }
 {
-    if a < radix {
-        if b < radix {
-            return a * radix + b;
-        }
-        return radix * radix;
+    if a < radix && b < radix {
+        return a * radix + b;
     }
     radix * radix
 }
@@ -63,18 +61,18 @@ fn signed(sign: u8, h: u64, m: u64) -> Option<i64>
     requires { (h ≤ 100) × (m ≤ 100) }
     ensures { result ≡ signed sign h m }
 {
-    if m <= 59 {
-        let minutes = h * 60 + m;
-        if minutes <= 840 {
-            if sign == b'+' {
-                return Some(minutes as i64);
-            }
-            if sign == b'-' {
-                return Some(-(minutes as i64));
-            }
-        }
+    if m > 59 {
+        return None;
     }
-    None
+    let minutes = h * 60 + m;
+    if minutes > 840 {
+        return None;
+    }
+    match sign {
+        b'+' => Some(minutes as i64),
+        b'-' => Some(-(minutes as i64)),
+        _ => None,
+    }
 }
 
 // The offset of the zone from a position to the end of the text: "Z or a zone".

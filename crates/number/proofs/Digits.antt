@@ -70,20 +70,21 @@ module _ (before : ℕ) (s : List ℕ) (value i w : ℕ) (a : Accumulated before
   value-digit_high : w ≤ 57
   value-digit_high = digit_high w (and_left (is_digit w) (every is_digit (drop (i + 1) s)) digits-next)
 
-  pub value_room : value * 10 + (w - 48) < 2 ^ 64
-  value_room = omega (arith, room_for_digit before s value i a h, value-digit_high)
+  module _ (d : ℕ) (is : d ≡ w - 48) where
+    pub value_room : value * 10 + d < 2 ^ 64
+    value_room = omega (arith, room_for_digit before s value i a h, value-digit_high)
 
-  pub value-next : Accumulated before s (value * 10 + (w - 48)) (i + 1)
-  unfolding value_from
-  value-next =
-      let p : 10 ^ (8 + (i + 1)) ≡ 10 * 10 ^ (8 + i) = rw (add-one, add-suc) (pow-succ' 10 (8 + i)) in
-      record {
-        within = omega arith;
-        short = a.short;
-        digits = and_right (is_digit w) (every is_digit (drop (i + 1) s)) digits-next;
-        room = rw p (omega (arith, a.room, value-digit_high));
-        left = a.left ∙ rw (e, add-one, drop-cons s i 0);
-      }
+    pub value-next : Accumulated before s (value * 10 + d) (i + 1)
+    unfolding value_from
+    value-next =
+        let p : 10 ^ (8 + (i + 1)) ≡ 10 * 10 ^ (8 + i) = rw (add-one, add-suc) (pow-succ' 10 (8 + i)) in
+        record {
+          within = omega arith;
+          short = a.short;
+          digits = and_right (is_digit w) (every is_digit (drop (i + 1) s)) digits-next;
+          room = rw p (omega (arith, a.room, value-digit_high));
+          left = a.left ∙ rw (is, e, add-one, drop-cons s i 0);
+        }
 
 pub value-ends : (before : ℕ) (s : List ℕ) (value i : ℕ) → Accumulated before s value i → length s ≤ i → value ≡ value_from before s
 unfolding value_from

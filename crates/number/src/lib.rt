@@ -20,15 +20,12 @@ pub struct Decimal {
 fn digit_run(s: &[u8]) -> usize
     ensures { (result ≡ run is_digit s.now) × (result ≤ length s.now) }
 {
-    let mut i = 0;
-    while i < s.len() {
-        if base::is_digit(s[i]) {
-            i += 1;
-        } else {
+    for (i, b) in s.iter().enumerate() {
+        if !b.is_ascii_digit() {
             return i;
         }
     }
-    i
+    s.len()
 }
 
 // The digits of the text written after the number before.
@@ -38,10 +35,8 @@ fn value_from(before: u64, s: &[u8]) -> u64
     ensures { result ≡ value_from before s.now }
 {
     let mut value = before;
-    let mut i = 0;
-    while i < s.len() {
-        value = value * 10 + (u64::from(s[i]) - 48);
-        i += 1;
+    for b in s {
+        value = value * 10 + u64::from(b - b'0');
     }
     value
 }
@@ -87,8 +82,7 @@ pub fn read(s: &[u8]) -> Option<Decimal>
     if s[run] != b'.' {
         return None;
     }
-    let after = run + 1;
-    read_fraction(whole, &s[after..])
+    read_fraction(whole, &s[run + 1..])
 }
 
 // Whether the text is readable as a number.
@@ -118,8 +112,7 @@ fn unit(d: Decimal) -> u64
     requires { Bounded d }
     ensures { (result ≡ unit d) × (result ≤ 10 ^ 9) }
 {
-    let decimals = d.decimals;
-    UNITS[decimals]
+    UNITS[d.decimals]
 }
 
 // The number in billionths.
