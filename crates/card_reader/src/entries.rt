@@ -64,15 +64,13 @@ pub fn read_entries(kinds: &[u8], card: &[u8], cells: &mut [u64], spans: &mut [i
     let mut e = 0;
     while left > 0 {
         let entry = card::entry_at(card, at, left);
-        let start = entry.start;
-        let end = entry.end;
-        if take_entry(kinds, &card[start..end], cells, spans, e, entry) {
-            at = end;
-            left -= 1;
-            e += 1;
-        } else {
+        let text = &card[entry.start..entry.end];
+        if !take_entry(kinds, text, cells, spans, e, entry) {
             return false;
         }
+        at = entry.end;
+        left -= 1;
+        e += 1;
     }
     true
 }

@@ -59,15 +59,19 @@ fn entry_counts(
     ensures { result ≡ entry_counts chosen question.meaning value.now (get_or (entries_of card.now) e no_entry) }
 {
     let cell = 32 + 8 * e;
-    if is_chosen(chosen, cells[cell + 1]) {
-        let start = cells[cell + 2] as usize;
-        let end = cells[cell + 3] as usize;
-        let read = reading_at(cells, spans, e);
-        let meaning = question.meaning;
-        let readings = question.readings;
-        return reading_counts(meaning, &card[start..end], read, value, readings);
+    if !is_chosen(chosen, cells[cell + 1]) {
+        return false;
     }
-    false
+    let start = cells[cell + 2] as usize;
+    let end = cells[cell + 3] as usize;
+    let read = reading_at(cells, spans, e);
+    reading_counts(
+        question.meaning,
+        &card[start..end],
+        read,
+        value,
+        question.readings,
+    )
 }
 
 // The first entry of a chain from `from` on that counts, counted from 1, or 0 for none. A chain goes from the last entry to the first.

@@ -46,17 +46,13 @@ pub fn packed(read: TextReading) -> Packed
             start: 0,
             end: 0,
         },
-        TextReading::Span(p) => {
-            let start = p.start;
-            let end = p.end;
-            Packed {
-                form: 2,
-                value: 0,
-                unit: open_bit(start) + 2 * open_bit(end),
-                start: instant_of(start),
-                end: instant_of(end),
-            }
-        }
+        TextReading::Span(p) => Packed {
+            form: 2,
+            value: 0,
+            unit: open_bit(p.start) + 2 * open_bit(p.end),
+            start: instant_of(p.start),
+            end: instant_of(p.end),
+        },
     }
 }
 

@@ -48,11 +48,9 @@ fn reading_relates(
     requires kept { Kept readings.number }
     ensures { result ≡ relates_read relation text.now value.now readings }
 {
-    let number = readings.number;
-    let date = readings.date;
     match (relation, read) {
-        (Relation::Numbers(r), TextReading::Number(i)) => number_relates(r, i, number),
-        (Relation::Dates(r), TextReading::Span(i)) => span_relates(r, i, date),
+        (Relation::Numbers(r), TextReading::Number(i)) => number_relates(r, i, readings.number),
+        (Relation::Dates(r), TextReading::Span(i)) => span_relates(r, i, readings.date),
         _ => relates_read(relation, text, value, readings),
     }
 }

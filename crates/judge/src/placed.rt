@@ -27,9 +27,7 @@ pub fn test_found(sheet: &[u8], bundle: u8, filter: &[u8], test: RawTest) -> Opt
     requires placed { Placed filter.now test }
     ensures { result ≡ lookup (parameters_of sheet.now) bundle (test_of filter.now test).path }
 {
-    let at = test.at;
-    let until = test.until;
-    sheet::find(sheet, bundle, &filter[at..until])
+    sheet::find(sheet, bundle, &filter[test.at..test.until])
 }
 
 // What is decided of a test of the filter on a well-formed sheet; its place is given.
@@ -47,14 +45,12 @@ pub fn test_fault(
 {
     let found = test_found(sheet, bundle, filter, test);
     let value = test.value;
-    let start = value.start;
-    let end = value.end;
     if value.escaped {
         let mut bytes = [0u8; 1024];
-        let n = decode(&filter[start..end], &mut bytes);
+        let n = decode(&filter[value.start..value.end], &mut bytes);
         return fault_at(found, test.operator, &bytes[..n], place);
     }
-    fault_at(found, test.operator, &filter[start..end], place)
+    fault_at(found, test.operator, &filter[value.start..value.end], place)
 }
 
 // What a test of the filter says of a well-formed card.
@@ -74,14 +70,12 @@ pub fn test_says(
 {
     let found = test_found(sheet, bundle, filter, test);
     let value = test.value;
-    let start = value.start;
-    let end = value.end;
     if value.escaped {
         let mut bytes = [0u8; 1024];
-        let n = decode(&filter[start..end], &mut bytes);
+        let n = decode(&filter[value.start..value.end], &mut bytes);
         return says_at(found, card, chosen, test.operator, &bytes[..n]);
     }
-    says_at(found, card, chosen, test.operator, &filter[start..end])
+    says_at(found, card, chosen, test.operator, &filter[value.start..value.end])
 }
 
 // `text_counts` with the value of a test of the filter.
@@ -91,14 +85,12 @@ pub fn member_counts(filter: &[u8], test: RawTest, meaning: Meaning, text: &[u8]
     ensures { result ≡ text_counts meaning (test_of filter.now test).value text.now }
 {
     let value = test.value;
-    let start = value.start;
-    let end = value.end;
     if value.escaped {
         let mut bytes = [0u8; 1024];
-        let n = decode(&filter[start..end], &mut bytes);
+        let n = decode(&filter[value.start..value.end], &mut bytes);
         return text_counts(meaning, &bytes[..n], text);
     }
-    text_counts(meaning, &filter[start..end], text)
+    text_counts(meaning, &filter[value.start..value.end], text)
 }
 
 // Whether the value of a test of the filter is true, case ignored.
@@ -108,12 +100,10 @@ pub fn member_truth(filter: &[u8], test: RawTest) -> bool
     ensures { result ≡ is_true (test_of filter.now test).value }
 {
     let value = test.value;
-    let start = value.start;
-    let end = value.end;
     if value.escaped {
         let mut bytes = [0u8; 1024];
-        let n = decode(&filter[start..end], &mut bytes);
+        let n = decode(&filter[value.start..value.end], &mut bytes);
         return kind::is_true(&bytes[..n]);
     }
-    kind::is_true(&filter[start..end])
+    kind::is_true(&filter[value.start..value.end])
 }

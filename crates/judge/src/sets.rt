@@ -30,12 +30,10 @@ pub fn conforms(kinds: &[u8], card: &[u8]) -> bool
     let mut left = card::entry_count(card);
     while left > 0 {
         let e = card::entry_at(card, at, left);
-        let start = e.start;
-        let end = e.end;
-        if !entry_conforms(kinds, e.index, &card[start..end]) {
+        if !entry_conforms(kinds, e.index, &card[e.start..e.end]) {
             return false;
         }
-        at = end;
+        at = e.end;
         left -= 1;
     }
     true
@@ -60,14 +58,12 @@ pub fn some_counts(card: &[u8], chosen: Chosen, index: u8, meaning: Meaning, val
     let mut left = card::entry_count(card);
     while left > 0 {
         let e = card::entry_at(card, at, left);
-        let start = e.start;
-        let end = e.end;
         if is_under(chosen, e.occurrence, e.index == index)
-            && text_counts(meaning, value, &card[start..end])
+            && text_counts(meaning, value, &card[e.start..e.end])
         {
             return true;
         }
-        at = end;
+        at = e.end;
         left -= 1;
     }
     false

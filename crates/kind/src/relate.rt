@@ -116,12 +116,10 @@ pub fn relates_read(relation: Relation, text: &[u8], value: &[u8], readings: Rea
     requires { Kept readings.number }
     ensures { result ≡ relates_read relation text.now value.now readings }
 {
-    let number = readings.number;
-    let date = readings.date;
     match relation {
         Relation::Strings(r) => strings_relate(r, text, value),
-        Relation::Numbers(r) => number_readings_relate(r, text, number),
-        Relation::Dates(r) => date_readings_relate(r, text, date),
+        Relation::Numbers(r) => number_readings_relate(r, text, readings.number),
+        Relation::Dates(r) => date_readings_relate(r, text, readings.date),
         Relation::Tokens => token::matches(text, value),
         Relation::References => text::same(text, value),
     }

@@ -30,16 +30,14 @@ fn ends_after(end: Option<i64>, t: i64) -> bool
 pub fn later(i: Period, f: Date) -> bool
     ensures { result ≡ later i f }
 {
-    let end = i.end;
-    ends_after(end, f.end)
+    ends_after(i.end, f.end)
 }
 
 // lt: "i0<f0".
 pub fn earlier(i: Period, f: Date) -> bool
     ensures { result ≡ earlier i f }
 {
-    let start = i.start;
-    starts_before(start, f.start)
+    starts_before(i.start, f.start)
 }
 
 // eq: "the filter's range holds the card's range whole"; "I inside F".
@@ -67,16 +65,14 @@ pub fn earlier_or_inside(i: Period, f: Date) -> bool
 fn starts_before_end(i: Period, f: Date) -> bool
     ensures { result ≡ starts_before i.start f.end }
 {
-    let start = i.start;
-    starts_before(start, f.end)
+    starts_before(i.start, f.end)
 }
 
 // Whether i ends after f starts: "f0<i1".
 fn ends_after_start(i: Period, f: Date) -> bool
     ensures { result ≡ ends_after i.end f.start }
 {
-    let end = i.end;
-    ends_after(end, f.start)
+    ends_after(i.end, f.start)
 }
 
 // sa: "i0>=f1".
@@ -104,8 +100,7 @@ pub fn overlaps(i: Period, f: Date) -> bool
 fn starts_no_later(i: Period, f: Date) -> bool
     ensures { result ≡ starts_no_later i.start f.start }
 {
-    let start = i.start;
-    match start {
+    match i.start {
         None => true,
         Some(s) => s <= f.start,
     }
@@ -115,8 +110,7 @@ fn starts_no_later(i: Period, f: Date) -> bool
 fn ends_no_earlier(i: Period, f: Date) -> bool
     ensures { result ≡ ends_no_earlier i.end f.end }
 {
-    let end = i.end;
-    match end {
+    match i.end {
         None => true,
         Some(e) => f.end <= e,
     }

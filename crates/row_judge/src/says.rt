@@ -78,35 +78,16 @@ fn next_text(
     ensures { FirstFrom (entry_counts chosen asked.meaning (value_of filter.now asked.opened)) card.now cells.now asked.index from result }
 {
     let opened = asked.opened;
-    let meaning = asked.meaning;
-    let readings = opened.readings;
     let question = Question {
         index: asked.index,
-        meaning,
-        readings,
+        meaning: asked.meaning,
+        readings: opened.readings,
     };
-    let start = opened.start;
-    let end = opened.end;
+    let value = &filter[opened.start..opened.end];
     if opened.escaped {
-        return next_escaped(
-            &filter[start..end],
-            card,
-            cells,
-            spans,
-            chosen,
-            question,
-            from,
-        );
+        return next_escaped(value, card, cells, spans, chosen, question, from);
     }
-    next_counting(
-        card,
-        cells,
-        spans,
-        chosen,
-        question,
-        &filter[start..end],
-        from,
-    )
+    next_counting(card, cells, spans, chosen, question, value, from)
 }
 
 // What a test without brackets says of the entries that count.

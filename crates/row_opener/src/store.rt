@@ -35,14 +35,12 @@ fn opened_text(meaning: Meaning, filter: &[u8], value: RawValue) -> Opened
     requires placed_value { PlacedValue filter.now value }
     ensures { result ≡ opened_value meaning value (value_in filter.now value) }
 {
-    let start = value.start;
-    let end = value.end;
     if value.escaped {
         let mut bytes = [0u8; 1024];
-        let n = decode(&filter[start..end], &mut bytes);
+        let n = decode(&filter[value.start..value.end], &mut bytes);
         return opened_value(meaning, value, &bytes[..n]);
     }
-    opened_value(meaning, value, &filter[start..end])
+    opened_value(meaning, value, &filter[value.start..value.end])
 }
 
 // Of a test, if it has a value.
@@ -147,10 +145,7 @@ fn span_of(opened: Opened) -> u32
     requires { Small opened }
     ensures { result ≡ span_of opened }
 {
-    let readings = opened.readings;
-    let number = readings.number;
-    let date = readings.date;
-    let mark = mark_of(number, date);
+    let mark = mark_of(opened.readings.number, opened.readings.date);
     let start = opened.start as u32;
     let end = opened.end as u32;
     let place = mark + 16 * (start + 2048 * end);
@@ -219,21 +214,17 @@ pub fn open_rows(kinds: &[u8], filter: &[u8], rows: &[u32], values: &mut [u64], 
     requires rows_in_bounds_2 { 2 * length rows.now ≤ length ends.old }
     ensures { Opens kinds.now filter.now rows.now values.new ends.new (length rows.now) }
 {
-    let mut i = 0;
-    while i < rows.len() {
+    for (i, &row) in rows.iter().enumerate() {
         let cell = 2 * i;
-        match opened_row(kinds, filter, rows[i]) {
+        match opened_row(kinds, filter, row) {
             Some(opened) => {
                 let readings = opened.readings;
-                let number = readings.number;
-                let date = readings.date;
-                values[cell] = span_of(opened) as u64;
-                values[cell + 1] = digits_of(number);
-                ends[cell] = start_of(date);
-                ends[cell + 1] = end_of(date);
+                values[cell] = u64::from(span_of(opened));
+                values[cell + 1] = digits_of(readings.number);
+                ends[cell] = start_of(readings.date);
+                ends[cell + 1] = end_of(readings.date);
             }
             None => values[cell] = 0,
         }
-        i += 1;
     }
 }

@@ -12,8 +12,8 @@ take_entry-requires-clause-e_bound c = search (progress_room, rules)
 pub loop-left-preserved : goal.loop-left-preserved
 loop-left-preserved c = search (progress_next, rules)
 
-pub returns-else-take_entry : goal.returns-else-take_entry
-returns-else-take_entry c = search (progress_misfit, rules)
+pub returns-then-not-take_entry : goal.returns-then-not-take_entry
+returns-then-not-take_entry c = search (progress_misfit, rules)
 
 pub returns : goal.returns
 returns c = search (progress_end, rules)
