@@ -27,13 +27,10 @@ pub fn spare(rows: &[u32], tests: usize, marks: &mut [u8])
     requires marks_len { length marks.old ≡ 32 }
     ensures { Spares rows.now tests marks.old marks.new }
 {
-    let mut left = tests;
-    while left > 0 {
-        let i = left - 1;
+    for i in (0..tests).rev() {
         let mark = marks[i];
         marks[i] = 0;
         let whole = mark_of(rows, marks);
         marks[i] = remains(whole, mark);
-        left -= 1;
     }
 }

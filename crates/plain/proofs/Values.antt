@@ -8,7 +8,7 @@ use Prim.Native.Nat.{ℕ, ◌+◌, ◌≤◌}
 use native.Mathlib.Omega.{arith}
 use native.Mathlib.Nat.{le_refl}
 use mathlib.Core.Path.{◌≡◌, refl, ap, sym, ◌∙◌, subst}
-use mathlib.Core.Bool.{Bool, true, false, not}
+use mathlib.Core.Bool.{Bool, true, false, not, ◌&&◌}
 use mathlib.Core.List.{List, [], ◌∷◌, ◌++◌}
 use lib.Dec.{eqb}
 use lib.ListN.{length, drop, length-append}
@@ -20,6 +20,27 @@ use Rattle.syntax.specs.Strings.{quote, backslash, is_bare, is_plain, Escape, qu
 use Rattle.syntax.specs.Grammar.{Stands, Value, bare, string}
 use Rattle.syntax.proofs.Words.{stands_after}
 use Rattle.plain.specs.Plain.{is_word, escape_of, escaped, plain_value}
+use Rattle.std.specs.Prelude.{IsTrue, ◌↔◌}
+use Rattle.std.specs.List.{AllPass, list_all}
+use Rattle.std.proofs.lemmas.List.Sums.{AllPass-from_list_all, list_all-from_AllPass}
+
+-- ---- a test of every byte, as std answers it
+
+every_is : (p : ℕ → Bool) (xs : List ℕ) → list_all p xs ≡ every p xs
+unfolding every
+every_is p [] = refl
+every_is p (x ∷ xs) = ap (λ (b : Bool). p x && b) (every_is p xs)
+
+pub every_tested : (p : ℕ → Bool) (xs : List ℕ) (r : Bool) → IsTrue r ↔ AllPass p xs → r ≡ every p xs
+every_tested p xs r h = by r h ∙ every_is p xs
+  where
+    by : (r : Bool) → IsTrue r ↔ AllPass p xs → r ≡ list_all p xs
+    by true h = sym (list_all-from_AllPass p xs (h.0 refl))
+    by false h = go (list_all p xs) refl
+      where
+        go : (b : Bool) → list_all p xs ≡ b → false ≡ b
+        go true e = h.1 (AllPass-from_list_all p xs e)
+        go false e = refl
 
 -- ---- bare words
 

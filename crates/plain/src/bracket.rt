@@ -8,17 +8,10 @@ fn bracket(count: usize, out: &mut [u8]) -> usize
     requires { count + 2 ≤ length out.old }
     ensures { Puts (in_round (take count out.old)) out.old out.new result }
 {
-    let mut moved = b'(';
-    let mut i = 0;
-    while i < count {
-        let b = out[i];
-        out[i] = moved;
-        moved = b;
-        i += 1;
-    }
-    out[i] = moved;
-    out[i + 1] = b')';
-    i + 2
+    out.copy_within(0..count, 1);
+    out[0] = b'(';
+    out[count + 1] = b')';
+    count + 2
 }
 
 // Puts a pair of brackets around the first bytes where they are a join, and answers the length of it all.

@@ -17,15 +17,7 @@ use syntax::value::{decode, is_bare};
 fn all_bare(value: &[u8]) -> bool
     ensures { result ≡ every is_bare value.now }
 {
-    let mut i = 0;
-    while i < value.len() {
-        if is_bare(value[i]) {
-            i += 1;
-        } else {
-            return false;
-        }
-    }
-    true
+    value.iter().all(|&b| is_bare(b))
 }
 
 // Whether a value can be a bare word.
@@ -82,11 +74,9 @@ fn write_escaped(value: &[u8], out: &mut [u8]) -> usize
     requires { Room (escaped value.now) out.old }
     ensures { Puts (escaped value.now) out.old out.new result }
 {
-    let mut i = 0;
     let mut n = 0;
-    while i < value.len() {
-        n += write_escaped_byte(value[i], &mut out[n..]);
-        i += 1;
+    for &b in value {
+        n += write_escaped_byte(b, &mut out[n..]);
     }
     n
 }

@@ -1,5 +1,5 @@
 // Spaces, words and runs of bytes.
-ghost use Rattle.std.specs.Prelude.{◌≡◌, ◌≤◌, length};
+ghost use Rattle.std.specs.Prelude.{◌≡◌, ◌≤◌, ℕ, Bool, length};
 ghost use Rattle.base.specs.Names.{is_name_part};
 ghost use Rattle.base.specs.Runs.{RunEnd};
 ghost use Rattle.syntax.specs.Scan.{is_space, has};
@@ -11,20 +11,25 @@ pub fn is_space(b: u8) -> bool
     b == b' '
 }
 
+// The first position from `at` on where a byte stands that `part` does not take, or the end.
+pub fn run_end<F: Fn(u8) -> bool>(s: &[u8], at: usize, part: F) -> usize
+    requires at_in_bounds { at ≤ length s.now }
+    requires callable { F.IsAlwaysCallable part }
+    ensures { (p : ℕ → Bool) → ((b : ℕ) (r : Bool) → F.post part b r → r ≡ p b) → RunEnd p s.now at result }
+{
+    let mut i = at;
+    while i < s.len() && part(s[i]) {
+        i += 1;
+    }
+    i
+}
+
 // The first position from `at` on where no space stands.
 pub fn skip(s: &[u8], at: usize) -> usize
     requires { at ≤ length s.now }
     ensures { RunEnd is_space s.now at result }
 {
-    let mut i = at;
-    while i < s.len() {
-        if is_space(s[i]) {
-            i += 1;
-        } else {
-            return i;
-        }
-    }
-    i
+    run_end(s, at, is_space)
 }
 
 // The first position from `at` on where no byte of a name stands.
@@ -32,15 +37,7 @@ pub fn name_end(s: &[u8], at: usize) -> usize
     requires { at ≤ length s.now }
     ensures { RunEnd is_name_part s.now at result }
 {
-    let mut i = at;
-    while i < s.len() {
-        if base::name::is_name_part(s[i]) {
-            i += 1;
-        } else {
-            return i;
-        }
-    }
-    i
+    run_end(s, at, base::name::is_name_part)
 }
 
 // Whether the word stands at a position.

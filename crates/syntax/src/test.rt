@@ -36,13 +36,11 @@ pub fn read_operator(s: &[u8], at: usize) -> Option<u8>
     let first = s[at];
     let second = s[at + 1];
     let words = b"eqnecoswewgtltgeleapsaebprposssbinnire";
-    let mut k: u8 = 0;
-    while k < base::operator::COUNT {
+    for k in 0..base::operator::COUNT {
         let i = 2 * k as usize;
         if same_letters(first, second, words[i], words[i + 1]) {
             return Some(k);
         }
-        k += 1;
     }
     None
 }

@@ -4,6 +4,7 @@ ghost use Rattle.base.specs.Runs.{RunEnd};
 ghost use Rattle.syntax.specs.Strings.{is_bare, is_escape, unescaped};
 ghost use Rattle.syntax.specs.Scan.{step_of, string_at, value_at, piece_of, Decoded};
 
+use crate::scan::run_end;
 use crate::{RawValue, StringEnd, StringStep};
 
 // Whether a byte may stand in a bare word: "bytes 0x21 to 0x7E, without ")" and "]"".
@@ -24,15 +25,7 @@ fn bare_end(s: &[u8], at: usize) -> usize
     requires { at ≤ length s.now }
     ensures { RunEnd is_bare s.now at result }
 {
-    let mut i = at;
-    while i < s.len() {
-        if is_bare(s[i]) {
-            i += 1;
-        } else {
-            return i;
-        }
-    }
-    i
+    run_end(s, at, is_bare)
 }
 
 // Whether a byte may follow a backslash: "the JSON escapes \" \\ \/ \b \f \n \r \t".
@@ -90,22 +83,16 @@ fn read_string(s: &[u8], at: usize) -> Option<StringEnd>
     requires { at ≤ length s.now }
     ensures { result ≡ string_at s.now false false at }
 {
-    let mut i = at;
     let mut pending = false;
     let mut escaped = false;
-    while i < s.len() {
-        match string_step(pending, s[i]) {
+    for end in at..s.len() {
+        match string_step(pending, s[end]) {
             StringStep::More(next) => {
                 escaped = either(escaped, next);
                 pending = next;
-                i += 1;
             }
-            StringStep::Close => {
-                return Some(StringEnd { end: i, escaped });
-            }
-            StringStep::Wrong => {
-                return None;
-            }
+            StringStep::Close => return Some(StringEnd { end, escaped }),
+            StringStep::Wrong => return None,
         }
     }
     None
@@ -160,21 +147,16 @@ pub fn decode(raw: &[u8], out: &mut [u8]) -> usize
     requires { length raw.now ≤ length out.old }
     ensures { Decoded raw.now out.new result }
 {
-    let mut i = 0;
     let mut n = 0;
     let mut pending = false;
-    while i < raw.len() {
-        match piece(pending, raw[i]) {
+    for &b in raw {
+        match piece(pending, b) {
             Some(b) => {
                 out[n] = b;
                 n += 1;
                 pending = false;
-                i += 1;
             }
-            None => {
-                pending = true;
-                i += 1;
-            }
+            None => pending = true,
         }
     }
     n

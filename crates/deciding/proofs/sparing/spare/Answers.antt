@@ -3,20 +3,20 @@ use Rattle.deciding.proofs.Spared.{sparing_start, sparing_inside, sparing_again,
 use borrow.Author.Rules.{rules}
 use Rattle.deciding.proofs.sparing.spare.Goals as goal
 
-pub loop-left-init : goal.loop-left-init
-loop-left-init c = search (sparing_start, rules)
+pub loop-i-init : goal.loop-i-init
+loop-i-init c = search (sparing_start, rules)
 
 pub bounds-marks-i : goal.bounds-marks-i
 bounds-marks-i c = search (sparing_inside, rules)
 
-pub bounds-marks-i-in-loop-left : goal.bounds-marks-i-in-loop-left
-bounds-marks-i-in-loop-left c = search (sparing_inside, rules)
+pub bounds-marks-i-in-loop-i : goal.bounds-marks-i-in-loop-i
+bounds-marks-i-in-loop-i c = search (sparing_inside, rules)
 
-pub bounds-marks-i-in-loop-left-2 : goal.bounds-marks-i-in-loop-left-2
-bounds-marks-i-in-loop-left-2 c = search (sparing_again, rules)
+pub bounds-marks-i-in-loop-i-2 : goal.bounds-marks-i-in-loop-i-2
+bounds-marks-i-in-loop-i-2 c = search (sparing_again, rules)
 
-pub loop-left-preserved : goal.loop-left-preserved
-loop-left-preserved c = search (sparing_next, rules)
+pub loop-i-preserved : goal.loop-i-preserved
+loop-i-preserved c = search (sparing_next, rules)
 
 pub returns : goal.returns
 returns c = search (sparing_end, rules)

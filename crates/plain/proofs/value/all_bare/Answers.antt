@@ -1,17 +1,10 @@
--- `plain::value::all_bare` meets its contract: what is left decides. Assumes nothing.
-use mathlib.Core.Path.{sym, ◌∙◌}
+-- `plain::value::all_bare` meets its contract: what std tests of each byte. Assumes nothing.
 use borrow.Author.Rules.{rules}
-use Rattle.base.proofs.Loops.{passed_start, passed_next, passed_not, passed_end}
+use Rattle.std.specs.Prelude.{IsTrue, ◌↔◌}
+use Rattle.std.specs.List.{AllPass}
+use Rattle.syntax.specs.Strings.{is_bare}
+use Rattle.plain.proofs.Values.{every_tested}
 use Rattle.plain.proofs.value.all_bare.Goals as goal
 
-pub loop-i-init : goal.loop-i-init
-loop-i-init c = search (passed_start, rules)
-
-pub loop-i-preserved : goal.loop-i-preserved
-loop-i-preserved c = search (passed_next, sym c.is_bare.ensures ∙ c.if-is_bare.true, rules)
-
-pub returns-else-is_bare : goal.returns-else-is_bare
-returns-else-is_bare c = search (passed_not, sym c.is_bare.ensures ∙ c.if-is_bare.false, rules)
-
 pub returns : goal.returns
-returns c = search (passed_end, rules)
+returns c = let h : IsTrue c.all.result ↔ AllPass is_bare c.args.value.now = search rules in every_tested _ _ _ h

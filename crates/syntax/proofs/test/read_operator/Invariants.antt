@@ -5,6 +5,3 @@ use Rattle.syntax.proofs.test.read_operator.Given as goal
 
 abbrev pub invariant-loop-k : goal.invariant-loop-k
 invariant-loop-k l = Trying l.words l.first l.second l.k
-
-abbrev pub decreases-loop-k : goal.decreases-loop-k
-decreases-loop-k l = 19 - l.k

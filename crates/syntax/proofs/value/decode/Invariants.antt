@@ -5,8 +5,5 @@ use lib.ListN.{length}
 use Rattle.syntax.proofs.Decoding.{Decoding}
 use Rattle.syntax.proofs.value.decode.Given as goal
 
-abbrev pub invariant-loop-i : goal.invariant-loop-i
-invariant-loop-i l = Decoding l.raw l.out l.i l.n l.pending × (length l.out ≡ length l.initial.out)
-
-abbrev pub decreases-loop-i : goal.decreases-loop-i
-decreases-loop-i l = length l.raw - l.i
+abbrev pub invariant-loop-b : goal.invariant-loop-b
+invariant-loop-b l = Decoding l.raw l.out l.b-index l.n l.pending × (length l.out ≡ length l.initial.out)

@@ -3,11 +3,11 @@ use borrow.Author.Rules.{rules}
 use Rattle.syntax.proofs.Values.{string_starts, string_more, string_closes, string_wrong, string_open}
 use Rattle.syntax.proofs.value.read_string.Goals as goal
 
-pub loop-i-init : goal.loop-i-init
-loop-i-init c = search (string_starts, rules)
+pub loop-end-init : goal.loop-end-init
+loop-end-init c = search (string_starts, rules)
 
-pub loop-i-preserved : goal.loop-i-preserved
-loop-i-preserved c = search (string_more, rules)
+pub loop-end-preserved : goal.loop-end-preserved
+loop-end-preserved c = search (string_more, rules)
 
 pub returns-in-Close : goal.returns-in-Close
 returns-in-Close c = search (string_closes, rules)
