@@ -6,7 +6,7 @@ use mathlib.Core.List.{List}
 use Rattle.base.specs.Parts.{part}
 use Rattle.block.specs.Sum.{sum_from}
 use Rattle.block.specs.Columns.{column_sum, column_rows}
-use Rattle.block.specs.Items.{laid_out, items, Walk}
+use Rattle.block.specs.Items.{laid_out}
 
 -- the rows of the column j from `row` on are summed: `sum` has their bytes, `rows` their bytes each times its row, counted from `row`
 pub record RowsSummed (b : List ℕ) (j sum rows row : ℕ) : Type 0 where
@@ -31,8 +31,3 @@ pub record Summed (b : List ℕ) (m total j : ℕ) : Type 0 where
 pub record LaidTo (b : List ℕ) (from count p done : ℕ) : Type 0 where
   pub within : p ≤ 508
   pub rest : laid_out (count - done) b p ≡ laid_out count b from
-
--- a loop over items, whose answer is what G says of those to come. A turn may change G, and not the answer.
-pub record Visited {X A : Type 0} (make : ℕ → ℕ → List ℕ → X) (G : List X → A) (answer : A) (b : List ℕ) (p left : ℕ) : Type 0 where
-  pub walk : Walk b p left
-  pub rest : G (items make left b p) ≡ answer

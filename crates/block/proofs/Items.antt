@@ -1,8 +1,7 @@
 -- Laws of items: their layout in a block, and a walk over them.
 -- `laid_out` tests the layout by recursion on the number of items left, and a turn takes one item off (`laid_first`, `items-first`). A loop
--- keeps that what is left gives the answer of the whole: `LaidTo` for the test of the layout, `Visited` for a loop over the items that
--- answers something. `Walk` says that the items left are laid out from p on. The item at p then ends before byte 508 (`walk_within`), and
--- the walk goes on behind it (`item-step`).
+-- keeps that what is left gives the answer of the whole: `LaidTo` for the test of the layout. `Walk` says that the items left are laid out
+-- from p on. The item at p then ends before byte 508 (`walk_within`), and the walk goes on behind it (`walk_next`).
 -- Assumes nothing.
 use Rattle.std.specs.Prelude.{Option, Some, None, MatchOption}
 use Prim.Native.Nat.{ℕ, zero, suc, ◌+◌, ◌-◌, ◌≤◌, ◌<◌}
@@ -17,9 +16,9 @@ use Rattle.std.specs.Bool.{then_some}
 use Rattle.base.specs.Parts.{part}
 use mathlib.Core.Logic.{⊎_elim}
 use Rattle.base.proofs.Tests.{and_left, and_right, or_either}
-use Rattle.block.specs.Items.{zeros, has_marks, length_at, next, mark_at, text_at, laid_out, has_layout, has_either, items, ItemAt, Walk, ItemStep, LaysOut}
-use Rattle.block.specs.declared.Item.{Item}
-use Rattle.block.proofs.Invariants.{LaidTo, Visited}
+use Rattle.block.specs.Items.{zeros, has_marks, length_at, next, mark_at, text_at, laid_out, has_layout, has_either, items, PlaceAt, Walk, LaysOut}
+use Rattle.block.specs.declared.Place.{Place}
+use Rattle.block.proofs.Invariants.{LaidTo}
 
 -- ---- what the functions that look at a layout answer
 
@@ -145,14 +144,14 @@ own_either b plain marked at most false h = rw h
 -- ---- an item as the code finds it
 
 module _ (b : List ℕ) (p : ℕ) (w : Bool) (e : w ≡ has_marks (get_or b 0 0)) where
-  pub item-marked : w ≡ true → (n : ℕ) → n ≡ get_or b (p + 2) 0 → ItemAt b p (record { tag = get_or b p 0; mark = get_or b (p + 1) 0; start = p + 3; end = p + 3 + n })
+  pub item-marked : w ≡ true → (n : ℕ) → n ≡ get_or b (p + 2) 0 → PlaceAt b p (record { tag = get_or b p 0; mark = get_or b (p + 1) 0; start = p + 3; end = p + 3 + n })
   unfolding mark_at next length_at
   item-marked h n i =
       let k : has_marks (get_or b 0 0) ≡ true = sym e ∙ h in
       let z : p + 3 ≡ p + 2 + 1 = omega arith in
       record { tag = refl; mark = rw k; start = rw k z; end = rw (k, i) (ap (λ (n : ℕ). n + get_or b (p + 2) 0) z); ahead = omega arith; order = omega arith }
 
-  pub item-plain : w ≡ false → (n : ℕ) → n ≡ get_or b (p + 1) 0 → ItemAt b p (record { tag = get_or b p 0; mark = 0; start = p + 2; end = p + 2 + n })
+  pub item-plain : w ≡ false → (n : ℕ) → n ≡ get_or b (p + 1) 0 → PlaceAt b p (record { tag = get_or b p 0; mark = 0; start = p + 2; end = p + 2 + n })
   unfolding mark_at next length_at
   item-plain h n i =
       let k : has_marks (get_or b 0 0) ≡ false = sym e ∙ h in
@@ -166,11 +165,11 @@ module _ (b : List ℕ) (p left : ℕ) (w : Walk b p left) (l : 0 < left) where
   laid_both = sym (laid_first left b p l) ∙ w.laid
 
   -- the item at p ends at or before byte 507
-  walk_within : next b p ≤ 508
+  pub walk_within : next b p ≤ 508
   walk_within = leb-true (next b p) 508 (and_left (leb (next b p) 508) (laid_out (left - 1) b (next b p)) laid_both)
 
   -- and the walk goes on there
-  walk_next : Walk b (next b p) (left - 1)
+  pub walk_next : Walk b (next b p) (left - 1)
   walk_next = record { size = w.size; within = walk_within; laid = and_right (leb (next b p) 508) (laid_out (left - 1) b (next b p)) laid_both }
 
 pub items-length : {X : Type 0} (make : ℕ → ℕ → List ℕ → X) (k : ℕ) (b : List ℕ) (p : ℕ) → length (items make k b p) ≡ k
@@ -183,37 +182,6 @@ module _ {X : Type 0} (make : ℕ → ℕ → List ℕ → X) (b : List ℕ) (p 
   unfolding items
   items_none h = let e : left ≡ 0 = omega arith in ap (λ (n : ℕ). items make n b p) e
 
-  items-first : 0 < left → items make left b p ≡ make (get_or b p 0) (mark_at b p) (text_at b p) ∷ items make (left - 1) b (next b p)
+  pub items-first : 0 < left → items make left b p ≡ make (get_or b p 0) (mark_at b p) (text_at b p) ∷ items make (left - 1) b (next b p)
   unfolding items
   items-first h = let e : left ≡ suc (left - 1) = omega arith in ap (λ (n : ℕ). items make n b p) e
-
-  -- what is read at p is a step of the walk
-  pub item-step : Walk b p left → 0 < left → (r : Item) → ItemAt b p r → ItemStep make b p left r.tag r.mark r.start r.end
-  unfolding text_at
-  item-step w l r i =
-      record {
-        order = i.order;
-        within = omega (arith, walk_within b p left w l, w.size, i.end);
-        onward = omega (arith, i.ahead, i.order);
-        walk = subst (λ (e : ℕ). Walk b e (left - 1)) (sym i.end) (walk_next b p left w l);
-        first = items-first l ∙ rw (i.tag, i.mark, i.start, i.end);
-      }
-
--- ---- a loop over the items: its start, a turn that goes on, one that decides, and its end
-
-module _ {X A : Type 0} (make : ℕ → ℕ → List ℕ → X) (G : List X → A) (b : List ℕ) (p left : ℕ) where
-  module _ (answer : A) where
-    pub visited_start : Walk b p left → answer ≡ G (items make left b p) → Visited make G answer b p left
-    visited_start w e = record { walk = w; rest = sym e }
-
-    module _ (inv : Visited make G answer b p left) where
-      module _ (tag mark start end : ℕ) (s : ItemStep make b p left tag mark start end) where
-        pub visited_next : (G' : List X → A) → G (make tag mark (part b start end) ∷ items make (left - 1) b end) ≡ G' (items make (left - 1) b end)
-            → Visited make G' answer b end (left - 1)
-        visited_next G' e = record { walk = s.walk; rest = sym e ∙ sym (ap G s.first) ∙ inv.rest }
-
-        pub visited_decides : (x : A) → x ≡ G (make tag mark (part b start end) ∷ items make (left - 1) b end) → x ≡ answer
-        visited_decides x e = e ∙ sym (ap G s.first) ∙ inv.rest
-
-      pub visited_end : left ≤ 0 → (x : A) → x ≡ G [] → x ≡ answer
-      visited_end h x e = e ∙ ap G (sym (items_none make b p left h)) ∙ inv.rest

@@ -5,7 +5,7 @@ use Rattle.std.specs.Prelude.{ℕ, zero, suc, ◌+◌, ◌-◌, ◌≤◌, ◌<�
 use Rattle.base.specs.Lists.{every}
 use Rattle.base.specs.Parts.{part}
 use Rattle.block.specs.Seal.{HasSize}
-use Rattle.block.specs.declared.Item.{Item}
+use Rattle.block.specs.declared.Place.{Place}
 
 -- ---- reading
 
@@ -63,7 +63,7 @@ items make zero b p = []
 items make (suc k) b p = make (get_or b p 0) (mark_at b p) (text_at b p) ∷ items make k b (next b p)
 
 -- r says where the item at p of b stands
-pub record ItemAt (b : List ℕ) (p : ℕ) (r : Item) : Type 0 where
+pub record PlaceAt (b : List ℕ) (p : ℕ) (r : Place) : Type 0 where
   pub tag : r.tag ≡ get_or b p 0
   pub mark : r.mark ≡ mark_at b p
   pub start : r.start ≡ length_at b p + 1
@@ -76,15 +76,6 @@ pub record Walk (b : List ℕ) (p left : ℕ) : Type 0 where
   pub size : HasSize b
   pub within : p ≤ 508
   pub laid : laid_out left b p ≡ true
-
--- what a step of the walk learns: the item at p has the first byte `tag`, a mark, and its text from `start` to `end`, where the
--- walk goes on
-pub record ItemStep {X : Type 0} (make : ℕ → ℕ → List ℕ → X) (b : List ℕ) (p left tag mark start end : ℕ) : Type 0 where
-  pub order : start ≤ end
-  pub within : end ≤ length b
-  pub onward : p < end
-  pub walk : Walk b end (left - 1)
-  pub first : items make left b p ≡ make tag mark (part b start end) ∷ items make (left - 1) b end
 
 -- ---- writing
 

@@ -4,4 +4,5 @@ pub mod Sum
 pub mod Columns
 pub mod Seal
 pub mod Items
+pub mod Walking
 pub mod Readings

@@ -2,15 +2,17 @@
 #![tactic(auto)]
 
 mod columns;
+mod walker;
 
 ghost use Rattle.std.specs.Prelude.{◌≡◌, ◌&&◌, ◌+◌, ◌≤◌, ◌<◌, eqb, length};
 ghost use Rattle.block.specs.Words.{word};
 ghost use Rattle.block.specs.Seal.{HasSize, check};
-ghost use Rattle.block.specs.Items.{zeros, has_marks, laid_out, has_layout, has_either, ItemAt, LaysOut};
+ghost use Rattle.block.specs.Items.{zeros, has_marks, laid_out, has_layout, has_either, PlaceAt, LaysOut};
 ghost use Rattle.block.specs.Readings.{reading};
 
 pub use columns::check_sum;
 use columns::check_sum_to;
+pub use walker::{Item, Walker};
 
 // What the size and the check sum of a block are: both right, or which is wrong.
 #[derive(Clone, Copy)]
@@ -33,10 +35,10 @@ pub enum Validity {
     WrongLayout,
 }
 
-// An item: its first byte, its mark (0 in a block without marks), and where its text starts and ends. The next item starts
+// Where an item stands: its first byte, its mark (0 in a block without marks), and where its text starts and ends. The next item starts
 // where the text ends.
 #[derive(Clone, Copy)]
-pub struct Item {
+pub struct Place {
     pub tag: u8,
     pub mark: u8,
     pub start: usize,
@@ -79,14 +81,14 @@ pub fn has_marks(first: u8) -> bool
     matches!(first, 0x44 | 0x51)
 }
 
-// The item at `at`. No other function knows how an item begins.
-pub fn item_at(block: &[u8], at: usize) -> Item
+// The place of the item at `at`. No other function knows how an item begins.
+pub fn place_at(block: &[u8], at: usize) -> Place
     requires { at + 3 ≤ length block.now }
-    ensures { ItemAt block.now at result }
+    ensures { PlaceAt block.now at result }
 {
     if has_marks(block[0]) {
         let start = at + 3;
-        return Item {
+        return Place {
             tag: block[at],
             mark: block[at + 1],
             start,
@@ -94,7 +96,7 @@ pub fn item_at(block: &[u8], at: usize) -> Item
         };
     }
     let start = at + 2;
-    Item {
+    Place {
         tag: block[at],
         mark: 0,
         start,
@@ -111,7 +113,7 @@ fn laid_out(block: &[u8], from: usize, count: u8) -> Option<usize>
 {
     let mut at = from;
     for _ in 0..count {
-        at = item_at(block, at).end;
+        at = place_at(block, at).end;
         let past = at > 508;
         if past {
             return None;

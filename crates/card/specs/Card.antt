@@ -3,10 +3,9 @@
 use Rattle.std.specs.Prelude.{ℕ, List, get_or}
 use Rattle.block.specs.Words.{word}
 use Rattle.block.specs.Seal.{check}
-use Rattle.block.specs.Items.{has_either, items, ItemStep}
+use Rattle.block.specs.Items.{has_either, items}
 use Rattle.block.specs.Readings.{reading}
 use Rattle.block.specs.declared.Validity.{Validity}
-use Rattle.card.specs.declared.Entry.{Entry as Span}
 
 -- an entry: the index of its parameter on the sheet (01: place), the number of its occurrence, and the text
 pub record Entry : Type 0 where
@@ -34,7 +33,3 @@ entries_of b = items entry (entry_count b) b 6
 -- what the bytes are, as a card: "byte 0 is 0x43" or 0x44, and byte 5 says that 0 to 64 entries follow it
 unfoldable pub read_card : List ℕ → Validity
 read_card b = reading (check b) (has_either 0x43 0x44 5 64 b)
-
--- r says where the entry at `at` stands, with `left` entries to come
-abbrev pub EntryAt : List ℕ → (at left : ℕ) → Span → Type 0
-EntryAt b at left r = ItemStep entry b at left r.index r.occurrence r.start r.end

@@ -5,7 +5,7 @@
 -- kept nothing changes but the number of entries (`holds_more`).
 -- Assumes nothing.
 use Rattle.std.specs.Prelude.{Option, Some, None, is_some}
-use Prim.Native.Nat.{ℕ, ◌+◌, ◌*◌, ◌-◌, ◌≤◌, ◌<◌}
+use Prim.Native.Nat.{ℕ, ◌+◌, ◌*◌, ◌≤◌, ◌<◌}
 use native.Mathlib.Nat.{add-zero}
 use native.Mathlib.Omega.{arith}
 use mathlib.Core.Path.{◌≡◌, refl, ap, sym, ◌∙◌, subst}
@@ -19,14 +19,14 @@ use lib.Seq.{get_or-drop, drop-drop}
 use borrow.Author.Tests.{eqb-true, eqb-false}
 use Rattle.base.specs.Parts.{part}
 use Rattle.base.proofs.Tests.{both_ways}
-use Rattle.block.specs.Items.{items, ItemStep}
 use Rattle.block.specs.declared.Validity.TheVariants.{WellFormed}
-use Rattle.block.proofs.Invariants.{Visited}
-use Rattle.block.proofs.Items.{layout_count, visited_next, visited_decides, visited_end}
+use Rattle.block.specs.Walking.{Steps, made, coming}
+use Rattle.block.specs.declared.walker.Walker.{Walker}
+use Rattle.block.proofs.Items.{layout_count, items-length}
+use Rattle.block.proofs.Walking.{step_first, step_stands, walked_next, walked_decides, walked_end}
 use Rattle.card.specs.Card.{Entry, entry, entries_of, entry_count, read_card}
-use Rattle.card.specs.declared.Entry.{Entry as Span}
+use Rattle.block.specs.declared.walker.Item.{Item}
 use Rattle.card.proofs.Read.{card_layout}
-use Rattle.card.proofs.Entries.{entries_start}
 use Rattle.kind.specs.Readable.{card_readable}
 use Rattle.judge.specs.Sets.{conforms_to}
 use Rattle.judge.proofs.Entries.{past_readable, conforms-next, conforms_not, conforms_end}
@@ -92,15 +92,15 @@ module _ (card : List ℕ) (es : List Entry) (cells : List ℕ) (spans : List �
 serves_same : {t : List ℕ} {h g : TextReading} → h ≡ g → Serves t h → Serves t g
 serves_same {t} e s = subst (Serves t) e s
 
-module _ (e : ℕ) (x : Span) (h : Packed) (cells : List ℕ) (spans : List ℤ) (cells' : List ℕ) (spans' : List ℤ) (st : Stored e x h cells spans cells' spans')
-    (lent : Lent cells spans) (few : e < 64) (low : x.index < 32) (kept : get_or cells x.index 0 ≤ 64) where
-  other : (j : ℕ) → (j ≡ x.index → ⊥) → (j < entry_cell e) ⊎ (entry_cell e + 7 ≤ j) → get_or cells' j 0 ≡ get_or cells j 0
+module _ (e : ℕ) (x : Item) (h : Packed) (cells : List ℕ) (spans : List ℤ) (cells' : List ℕ) (spans' : List ℤ) (st : Stored e x h cells spans cells' spans')
+    (lent : Lent cells spans) (few : e < 64) (low : x.tag < 32) (kept : get_or cells x.tag 0 ≤ 64) where
+  other : (j : ℕ) → (j ≡ x.tag → ⊥) → (j < entry_cell e) ⊎ (entry_cell e + 7 ≤ j) → get_or cells' j 0 ≡ get_or cells j 0
   other = stored_others e x h cells spans cells' spans' st lent.size lent.span_size few low
 
   spans_before : (j : ℕ) → j < 2 * e → get_or spans' j (pos 0) ≡ get_or spans j (pos 0)
   spans_before = stored_spans e x h cells spans cells' spans' st lent.size lent.span_size few low
 
-  head_is : get_or cells' x.index 0 ≡ e + 1
+  head_is : get_or cells' x.tag 0 ≡ e + 1
   head_is = stored_head e x h cells spans cells' spans' st lent.size lent.span_size few low
 
   -- a cell of an entry before e
@@ -109,15 +109,15 @@ module _ (e : ℕ) (x : Span) (h : Packed) (cells : List ℕ) (spans : List ℤ)
 
   -- whether a parameter is kept does not change
   kept_before : (j : ℕ) → j < 32 → IsKept cells' j → IsKept cells j
-  kept_before j z y = by_place (eqb j x.index) refl
+  kept_before j z y = by_place (eqb j x.tag) refl
     where
-      by_place : (t : Bool) → eqb j x.index ≡ t → IsKept cells j
-      by_place true q = subst (IsKept cells) (sym (eqb-true j x.index q)) kept
-      by_place false q = subst (λ (c : ℕ). c ≤ 64) (other j (eqb-false j x.index q) (inl (omega (arith, z)))) y
+      by_place : (t : Bool) → eqb j x.tag ≡ t → IsKept cells j
+      by_place true q = subst (IsKept cells) (sym (eqb-true j x.tag q)) kept
+      by_place false q = subst (λ (c : ℕ). c ≤ 64) (other j (eqb-false j x.tag q) (inl (omega (arith, z)))) y
 
-  module _ (card : List ℕ) (es : List Entry) (w : HoldsTo card es cells spans e) (t : List ℕ) (is : get_or es e no_entry ≡ entry x.index x.occurrence t) (text : t ≡ part card x.start x.end)
-      (order : x.start ≤ x.end) (within : x.end ≤ length card) (serves : Serves t (unpacked h)) (byte : x.occurrence < 256) where
-    here : (get_or es e no_entry).index ≡ x.index
+  module _ (card : List ℕ) (es : List Entry) (w : HoldsTo card es cells spans e) (is : get_or es e no_entry ≡ made entry x) (text : x.text.now ≡ part card x.start (x.start + length x.text.now))
+      (within : x.start + length x.text.now ≤ length card) (serves : Serves x.text.now (unpacked h)) (byte : x.mark < 256) where
+    here : (get_or es e no_entry).index ≡ x.tag
     here = ap (λ (y : Entry). y.index) is
 
     old_holds : (k : ℕ) → k < e → Holds card cells spans k (get_or es k no_entry) → Holds card cells' spans' k (get_or es k no_entry)
@@ -132,19 +132,19 @@ module _ (e : ℕ) (x : Span) (h : Packed) (cells : List ℕ) (spans : List ℤ)
           serves = serves_same reading o.serves;
         }
 
-    new_holds : Holds card cells' spans' e (entry x.index x.occurrence t)
+    new_holds : Holds card cells' spans' e (made entry x)
     new_holds =
         let size = lent.size in
         let span_size = lent.span_size in
         let s : get_or cells' (entry_cell e + 2) 0 ≡ x.start = stored-start e x h cells spans cells' spans' st size span_size few low in
-        let u : get_or cells' (entry_cell e + 3) 0 ≡ x.end = stored_end e x h cells spans cells' spans' st size span_size few low in
+        let u : get_or cells' (entry_cell e + 3) 0 ≡ x.start + length x.text.now = stored_end e x h cells spans cells' spans' st size span_size few low in
         let reading : unpacked h ≡ reading_at cells' spans' e =
         rw (stored_form e x h cells spans cells' spans' st size span_size few low, stored-value e x h cells spans cells' spans' st size span_size few low, stored-unit e x h cells spans cells' spans' st size span_size few low, stored-first e x h cells spans cells' spans' st size span_size few low, stored_last e x h cells spans cells' spans' st size span_size few low)
         in
         record {
           byte = byte;
           occurrence = stored_occurrence e x h cells spans cells' spans' st size span_size few low;
-          order = omega (arith, order, s, u);
+          order = omega (arith, s, u);
           within = omega (arith, within, u);
           text = rw (s, u) text;
           serves = serves_same reading serves;
@@ -160,15 +160,15 @@ module _ (e : ℕ) (x : Span) (h : Packed) (cells : List ℕ) (spans : List ℤ)
             old_holds k z (w.each k z (kept_before (get_or es k no_entry).index (w.low k z) y))
 
     next_heads : (j : ℕ) → j < 32 → IsKept cells' j → Last es j (e + 1) (get_or cells' j 0)
-    next_heads j z y = by_place (eqb j x.index) refl
+    next_heads j z y = by_place (eqb j x.tag) refl
       where
-        by_place : (b : Bool) → eqb j x.index ≡ b → Last es j (e + 1) (get_or cells' j 0)
+        by_place : (b : Bool) → eqb j x.tag ≡ b → Last es j (e + 1) (get_or cells' j 0)
         by_place true q =
-            subst (λ (m : ℕ). Last es m (e + 1) (get_or cells' m 0)) (sym (eqb-true j x.index q))
-            (subst (Last es x.index (e + 1)) (sym head_is) (last_here es e x.index here))
+            subst (λ (m : ℕ). Last es m (e + 1) (get_or cells' m 0)) (sym (eqb-true j x.tag q))
+            (subst (Last es x.tag (e + 1)) (sym head_is) (last_here es e x.tag here))
         by_place false q =
-            subst (Last es j (e + 1)) (sym (other j (eqb-false j x.index q) (inl (omega (arith, z)))))
-            (last_other es e x.index here j (get_or cells j 0) (eqb-false j x.index q) (w.heads j z (kept_before j z y)))
+            subst (Last es j (e + 1)) (sym (other j (eqb-false j x.tag q) (inl (omega (arith, z)))))
+            (last_other es e x.tag here j (get_or cells j 0) (eqb-false j x.tag q) (w.heads j z (kept_before j z y)))
 
     next-behind : (k : ℕ) → k < e + 1 → IsKept cells' (get_or es k no_entry).index → Last es (get_or es k no_entry).index k (get_or cells' (entry_cell k) 0)
     next-behind k z y = by_place (eqb k e) refl
@@ -177,7 +177,7 @@ module _ (e : ℕ) (x : Span) (h : Packed) (cells : List ℕ) (spans : List ℤ)
         by_place true q =
             subst (λ (m : ℕ). Last es (get_or es m no_entry).index m (get_or cells' (entry_cell m) 0)) (sym (eqb-true k e q))
             (subst (λ (m : ℕ). Last es m e (get_or cells' (entry_cell e) 0)) (sym here)
-            (subst (Last es x.index e) (sym (stored-behind e x h cells spans cells' spans' st lent.size lent.span_size few low)) (w.heads x.index low kept)))
+            (subst (Last es x.tag e) (sym (stored-behind e x h cells spans cells' spans' st lent.size lent.span_size few low)) (w.heads x.tag low kept)))
         by_place false q =
             let z : k < e = omega (arith, z, eqb-false k e q) in
             subst (Last es (get_or es k no_entry).index k) (sym (other (entry_cell k) (λ r. omega (arith, low, r)) (inl (omega (arith, z)))))
@@ -195,47 +195,48 @@ module _ (e : ℕ) (x : Span) (h : Packed) (cells : List ℕ) (spans : List ℤ)
 
 -- ---- the text of an entry is read
 
-module _ (kinds t : List ℕ) (e : ℕ) (x : Span) (cells : List ℕ) (spans : List ℤ) (lent : Lent cells spans) (i : ℕ) (same : i ≡ x.index) where
-  pub takes_past : length kinds ≡ 32 → 32 ≤ i → Takes kinds t e x cells spans cells spans false
-  takes_past l p = record { answer = past_readable kinds x.index t (omega (arith, l, p, same)); lent = lent; begins = record { size = refl; same = λ _ _. refl }; keeps = λ _ _ y. y; adds = λ y. both_ways y refl }
+module _ (kinds : List ℕ) (e : ℕ) (x : Item) (cells : List ℕ) (spans : List ℤ) (lent : Lent cells spans) (i : ℕ) (same : i ≡ x.tag) where
+  pub takes_past : length kinds ≡ 32 → 32 ≤ i → Takes kinds e x cells spans cells spans false
+  takes_past l p = record { answer = past_readable kinds x.tag x.text.now (omega (arith, l, p, same)); lent = lent; begins = record { size = refl; same = λ _ _. refl }; keeps = λ _ _ y. y; adds = λ y. both_ways y refl }
 
   module _ (low : i < 32) (kind : ℕ) (k : kind ≡ get_or kinds i 0) where
-    own_kind : kind ≡ get_or kinds x.index 0
+    own_kind : kind ≡ get_or kinds x.tag 0
     own_kind = k ∙ ap (λ (n : ℕ). get_or kinds n 0) same
 
-    pub takes_over : 64 < get_or cells i 0 → (r : Bool) → r ≡ card_readable kind t → Takes kinds t e x cells spans cells spans r
+    pub takes_over : 64 < get_or cells i 0 → (r : Bool) → r ≡ card_readable kind x.text.now → Takes kinds e x cells spans cells spans r
     takes_over n r y =
         record {
-          answer = y ∙ ap (λ (m : ℕ). card_readable m t) own_kind;
+          answer = y ∙ ap (λ (m : ℕ). card_readable m x.text.now) own_kind;
           lent = lent;
           begins = record { size = refl; same = λ _ _. refl };
           keeps = λ _ _ y. y;
-          adds = λ _ card es w is text order within.
-              holds_more card es cells spans e w x.index (ap (λ (z : Entry). z.index) is) (omega (arith, low, same)) (subst (λ (j : ℕ). 64 < get_or cells j 0) same n);
+          adds = λ _ card es w is text within.
+              holds_more card es cells spans e w x.tag (ap (λ (z : Entry). z.index) is) (omega (arith, low, same)) (subst (λ (j : ℕ). 64 < get_or cells j 0) same n);
         }
 
-    module _ (n : get_or cells i 0 ≤ 64) (r : Option TextReading) (a : ReadAs kind t r) where
-      pub takes_misfit : r ≡ None → Takes kinds t e x cells spans cells spans false
-      takes_misfit f = record { answer = sym (ap is_some f) ∙ a.fits ∙ ap (λ (m : ℕ). card_readable m t) own_kind; lent = lent; begins = record { size = refl; same = λ _ _. refl }; keeps = λ _ _ y. y; adds = λ y. both_ways y refl }
+    module _ (n : get_or cells i 0 ≤ 64) (r : Option TextReading) (a : ReadAs kind x.text.now r) where
+      pub takes_misfit : r ≡ None → Takes kinds e x cells spans cells spans false
+      takes_misfit f = record { answer = sym (ap is_some f) ∙ a.fits ∙ ap (λ (m : ℕ). card_readable m x.text.now) own_kind; lent = lent; begins = record { size = refl; same = λ _ _. refl }; keeps = λ _ _ y. y; adds = λ y. both_ways y refl }
 
-      pub takes_stored : (h : TextReading) → r ≡ Some h → e < 64 → x.occurrence < 256 → (cells' : List ℕ) (spans' : List ℤ) → Stored e x (packed h) cells spans cells' spans' → Takes kinds t e x cells spans cells' spans' true
+      pub takes_stored : (h : TextReading) → r ≡ Some h → e < 64 → x.mark < 256 → (cells' : List ℕ) (spans' : List ℤ) → Stored e x (packed h) cells spans cells' spans' → Takes kinds e x cells spans cells' spans' true
       takes_stored h f few byte cells' spans' st =
-          let own-low : x.index < 32 = omega (arith, low, same) in
+          let own-low : x.tag < 32 = omega (arith, low, same) in
           record {
-            answer = sym (ap is_some f) ∙ a.fits ∙ ap (λ (m : ℕ). card_readable m t) own_kind;
+            answer = sym (ap is_some f) ∙ a.fits ∙ ap (λ (m : ℕ). card_readable m x.text.now) own_kind;
             lent = stored-lent e x (packed h) cells spans cells' spans' st lent.size lent.span_size few own-low lent;
             begins = stored_begins e x (packed h) cells spans cells' spans' st lent.size lent.span_size few own-low;
             keeps = stored_keeps e x (packed h) cells spans cells' spans' st lent.size lent.span_size few own-low;
-            adds = λ _ card es w is text order within.
-                holds_stored e x (packed h) cells spans cells' spans' st lent few own-low (subst (λ (j : ℕ). get_or cells j 0 ≤ 64) same n) card es w t is text order within (serves_same (sym (unpacked-packed h)) (a.serves h f)) byte;
+            adds = λ _ card es w is text within.
+                holds_stored e x (packed h) cells spans cells' spans' st lent few own-low (subst (λ (j : ℕ). get_or cells j 0 ≤ 64) same n) card es w is text within (serves_same (sym (unpacked-packed h)) (a.serves h f)) byte;
           }
 
 -- ---- the loop
 
-pub record Progress (kinds card before cells : List ℕ) (spans : List ℤ) (at left e : ℕ) : Type 0 where
-  pub visited : Visited entry (conforms_to kinds) (conforms_to kinds (entries_of card)) card at left
-  pub rest : drop e (entries_of card) ≡ items entry left card at
-  pub count : e + left ≡ entry_count card
+pub record Progress (kinds card before cells : List ℕ) (spans : List ℤ) (s : Walker) (e : ℕ) : Type 0 where
+  pub block : s.block.now ≡ card
+  pub decides : conforms_to kinds (coming entry s) ≡ conforms_to kinds (entries_of card)
+  pub rest : drop e (entries_of card) ≡ coming entry s
+  pub count : e + s.left ≡ entry_count card
   pub few : entry_count card ≤ 64
   pub lent : Lent cells spans
   pub begins : BeginsAlike before cells
@@ -246,16 +247,17 @@ pub card_few : (card : List ℕ) → read_card card ≡ WellFormed → entry_cou
 unfolding entry_count
 card_few card h = layout_count card (get_or card 0 0) 5 64 (card_layout card h)
 
-all_rest : (card : List ℕ) (n : ℕ) → n ≡ entry_count card → drop 0 (entries_of card) ≡ items entry n card 6
+entries_counted : (card : List ℕ) → length (entries_of card) ≡ entry_count card
 unfolding entries_of
-all_rest card n e = ap (λ (k : ℕ). items entry k card 6) (sym e)
+entries_counted card = items-length entry (entry_count card) card 6
 
-pub progress_start : (kinds card begun cells : List ℕ) (spans : List ℤ) (n : ℕ) → read_card card ≡ WellFormed → n ≡ entry_count card → Lent begun spans → Begun begun cells 32 → Progress kinds card cells cells spans 6 n 0
-progress_start kinds card begun cells spans n h e w b =
+pub progress_start : (kinds card begun cells : List ℕ) (spans : List ℤ) (s : Walker) → read_card card ≡ WellFormed → s.block.now ≡ card → coming entry s ≡ entries_of card → Lent begun spans → Begun begun cells 32 → Progress kinds card cells cells spans s 0
+progress_start kinds card begun cells spans s h same all w b =
     record {
-      visited = entries_start (conforms_to kinds) card n (conforms_to kinds (entries_of card)) e h refl;
-      rest = all_rest card n e;
-      count = omega (arith, e);
+      block = same;
+      decides = ap (conforms_to kinds) all;
+      rest = sym all;
+      count = omega (arith, items-length entry s.left s.block.now s.at, ap (λ (es : List Entry). length es) all, entries_counted card);
       few = card_few card h;
       lent = begun_lent begun cells spans w b;
       begins = record { size = refl; same = λ _ _. refl };
@@ -279,52 +281,54 @@ module _ (es : List Entry) (e : ℕ) (x : Entry) (xs : List Entry) (h : drop e e
   entries_behind : drop (e + 1) es ≡ xs
   entries_behind = sym (drop-drop 1 e es) ∙ ap (drop 1) h
 
-module _ (kinds card cells₀ cells : List ℕ) (spans : List ℤ) (at left e : ℕ) (inv : Progress kinds card cells₀ cells spans at left e) where
+module _ (kinds card cells₀ cells : List ℕ) (spans : List ℤ) (s : Walker) (e : ℕ) (inv : Progress kinds card cells₀ cells spans s e) where
   -- since the card was begun with
   alike : (before : List ℕ) → Begun before cells₀ 32 → {after : List ℕ} → BeginsAlike cells₀ after → BeginsAlike before after
   alike before b {after} a = record { size = a.size ∙ (begun_begins before cells₀ b).size; same = λ j z. a.same j z ∙ (begun_begins before cells₀ b).same j z }
 
-  pub progress_room : 0 < left → e < 64
-  progress_room l = omega (arith, inv.count, inv.few, l)
+  module _ (x : Item) (t : Walker) (st : Steps s x t) (n : ℕ) (same : n ≡ e) where
+    pub progress_room : n < 64
+    progress_room = omega (arith, inv.count, inv.few, st.some, same)
 
-  module _ (l : 0 < left) (x : Span) (s : ItemStep entry card at left x.index x.occurrence x.start x.end) (cells' : List ℕ) (spans' : List ℤ) (r : Bool)
-      (tk : Takes kinds (part card x.start x.end) e x cells spans cells' spans' r) where
-    abbrev taken : Entry
-    taken = entry x.index x.occurrence (part card x.start x.end)
+    pub progress_within : x.start + length x.text.now ≤ 508
+    progress_within = (step_stands s x t st s.walk).within
 
-    from-here : drop e (entries_of card) ≡ taken ∷ items entry (left - 1) card x.end
-    from-here = inv.rest ∙ s.first
+    module _ (cells' : List ℕ) (spans' : List ℤ) (r : Bool) (tk : Takes kinds n x cells spans cells' spans' r) where
+      from-here : drop n (entries_of card) ≡ made entry x ∷ coming entry t
+      from-here = rw same (inv.rest ∙ step_first entry s x t st)
 
-    begins_still : BeginsAlike cells₀ cells'
-    begins_still = record { size = tk.begins.size ∙ inv.begins.size; same = λ j z. tk.begins.same j z ∙ inv.begins.same j z }
+      begins_still : BeginsAlike cells₀ cells'
+      begins_still = record { size = tk.begins.size ∙ inv.begins.size; same = λ j z. tk.begins.same j z ∙ inv.begins.same j z }
 
-    pub progress_misfit : (before : List ℕ) → Begun before cells₀ 32 → r ≡ false → ReadsCard kinds card before cells' spans' false
-    progress_misfit before b f =
-        record {
-          answer = visited_decides entry (conforms_to kinds) card at left (conforms_to kinds (entries_of card)) inv.visited x.index x.occurrence x.start x.end s false (conforms_not kinds x.index x.occurrence (part card x.start x.end) (items entry (left - 1) card x.end) r tk.answer f);
-          lent = tk.lent;
-          begins = alike before b begins_still;
-          keeps = λ y. both_ways y refl;
-        }
+      pub progress_misfit : (before : List ℕ) → Begun before cells₀ 32 → r ≡ false → ReadsCard kinds card before cells' spans' false
+      progress_misfit before b f =
+          record {
+            answer = walked_decides entry (conforms_to kinds) _ s inv.decides x t st false (conforms_not kinds x.tag x.mark x.text.now (coming entry t) r tk.answer f);
+            lent = tk.lent;
+            begins = alike before b begins_still;
+            keeps = λ y. both_ways y refl;
+          }
 
-    pub progress_next : r ≡ true → Progress kinds card cells₀ cells' spans' x.end (left - 1) (e + 1)
-    progress_next y =
-        record {
-          visited = visited_next entry (conforms_to kinds) card at left (conforms_to kinds (entries_of card)) inv.visited x.index x.occurrence x.start x.end s (conforms_to kinds) (conforms-next kinds x.index x.occurrence (part card x.start x.end) (items entry (left - 1) card x.end) r tk.answer y);
-          rest = entries_behind (entries_of card) e taken (items entry (left - 1) card x.end) from-here;
-          count = omega (arith, inv.count, l);
-          few = inv.few;
-          lent = tk.lent;
-          begins = begins_still;
-          kept = λ i z y. tk.keeps i z (inv.kept i z y);
-          holds = tk.adds y card (entries_of card) inv.holds (entry_here (entries_of card) e taken (items entry (left - 1) card x.end) from-here) refl s.order s.within;
-        }
+      pub progress_next : r ≡ true → (m : ℕ) → m ≡ e + 1 → Progress kinds card cells₀ cells' spans' t m
+      progress_next y m next =
+          let p = step_stands s x t st s.walk in
+          record {
+            block = st.block ∙ inv.block;
+            decides = walked_next entry (conforms_to kinds) _ s inv.decides x t st (conforms_to kinds) (conforms-next kinds x.tag x.mark x.text.now (coming entry t) r tk.answer y);
+            rest = rw (next, sym same) (entries_behind (entries_of card) n (made entry x) (coming entry t) from-here);
+            count = omega (arith, inv.count, st.some, st.left, next);
+            few = inv.few;
+            lent = tk.lent;
+            begins = begins_still;
+            kept = λ i z y. tk.keeps i z (inv.kept i z y);
+            holds = rw (next, sym same) (tk.adds y card (entries_of card) (rw same inv.holds) (entry_here (entries_of card) n (made entry x) (coming entry t) from-here) (subst (λ (b : List ℕ). x.text.now ≡ part b x.start (x.start + length x.text.now)) inv.block p.text) (omega (arith, p.within, p.size, ap (λ (b : List ℕ). length b) inv.block)));
+          }
 
-  pub progress_end : (before : List ℕ) → Begun before cells₀ 32 → left ≤ 0 → ReadsCard kinds card before cells spans true
-  progress_end before b h =
+  pub progress_end : s.left ≡ 0 → (before : List ℕ) → Begun before cells₀ 32 → ReadsCard kinds card before cells spans true
+  progress_end h before b =
       let all : e ≡ entry_count card = omega (arith, inv.count, h) in
       record {
-        answer = visited_end entry (conforms_to kinds) card at left (conforms_to kinds (entries_of card)) inv.visited h true (conforms_end kinds);
+        answer = walked_end entry (conforms_to kinds) _ s inv.decides h true (conforms_end kinds);
         lent = inv.lent;
         begins = alike before b inv.begins;
         keeps = λ _.

@@ -11,7 +11,7 @@ use lib.IntN.{ℤ, pos}
 use lib.ListN.{length, get_or, set, length-set}
 use lib.Seq.{get_or-set_same, get_or-set_other}
 use borrow.Author.Tests.{eqb-true, eqb-false}
-use Rattle.card.specs.declared.Entry.{Entry as Span}
+use Rattle.block.specs.declared.walker.Item.{Item}
 use Rattle.card_reader.specs.Lists.{Lent, entry_cell, IsKept, BeginsAlike}
 use Rattle.card_reader.specs.Storing.{Put, Linked, Placed, Valued, Spanned, Stored, Begun}
 use Rattle.card_reader.specs.declared.Packed.{Packed}
@@ -30,20 +30,20 @@ valued_put l m n k e f v u p q r = record { is = r.is ∙ rw (q.is, p.is); size 
 pub spanned_put : (l m k : List ℤ) (e : ℕ) (a b a' b' : ℤ) → Put 128 l (2 * e) a' m → Put 128 m (2 * e + 1) b' k → a' ≡ a → b' ≡ b → Spanned l e a b k
 spanned_put l m k e a b a' b' p q f g = record { is = q.is ∙ rw (p.is, f, g); size = q.size }
 
-pub stored_is : (e : ℕ) (x : Span) (h : Packed) (cells m n cells' : List ℕ) (spans spans' : List ℤ) (i : ℕ) (a b : ℤ) → Linked cells i e m → i ≡ x.index → Placed m e x.occurrence x.start x.end n
+pub stored_is : (e : ℕ) (x : Item) (h : Packed) (cells m n cells' : List ℕ) (spans spans' : List ℤ) (i : ℕ) (a b : ℤ) → Linked cells i e m → i ≡ x.tag → Placed m e x.mark x.start (x.start + length x.text.now) n
     → Valued n e h.form h.value h.unit cells' → Spanned spans e a b spans' → a ≡ h.start → b ≡ h.end → Stored e x h cells spans cells' spans'
 stored_is e x h cells m n cells' spans spans' i a b l same p v s f g =
     record { first = m; second = n; linked = subst (λ (j : ℕ). Linked cells j e m) same l; placed = p; valued = v; spanned = rw (f, g) at s }
 
 -- ---- what stands in the cells after the stores of one entry
 
-module _ (e : ℕ) (x : Span) (h : Packed) (cells : List ℕ) (spans : List ℤ) (cells' : List ℕ) (spans' : List ℤ) (st : Stored e x h cells spans cells' spans')
-    (size : length cells ≡ 608) (span_size : length spans ≡ 128) (few : e < 64) (low : x.index < 32) where
+module _ (e : ℕ) (x : Item) (h : Packed) (cells : List ℕ) (spans : List ℤ) (cells' : List ℕ) (spans' : List ℤ) (st : Stored e x h cells spans cells' spans')
+    (size : length cells ≡ 608) (span_size : length spans ≡ 128) (few : e < 64) (low : x.tag < 32) where
   abbrev b : ℕ
   b = entry_cell e
 
   abbrev i : ℕ
-  i = x.index
+  i = x.tag
 
   -- the stores of each function, for one cell
   by_link : (j : ℕ) → get_or st.first j 0 ≡ get_or (set (set cells b (get_or cells i 0)) i (e + 1)) j 0
@@ -51,8 +51,8 @@ module _ (e : ℕ) (x : Span) (h : Packed) (cells : List ℕ) (spans : List ℤ)
 
   by_place : (j : ℕ) → (j ≡ b + 1 → ⊥) → (j ≡ b + 2 → ⊥) → (j ≡ b + 3 → ⊥) → get_or st.second j 0 ≡ get_or st.first j 0
   by_place j p q r =
-      ap (λ (l : List ℕ). get_or l j 0) st.placed.is ∙ get_or-set_other (set (set st.first (b + 1) x.occurrence) (b + 2) x.start) (b + 3) j x.end 0 r
-      ∙ get_or-set_other (set st.first (b + 1) x.occurrence) (b + 2) j x.start 0 q ∙ get_or-set_other st.first (b + 1) j x.occurrence 0 p
+      ap (λ (l : List ℕ). get_or l j 0) st.placed.is ∙ get_or-set_other (set (set st.first (b + 1) x.mark) (b + 2) x.start) (b + 3) j (x.start + length x.text.now) 0 r
+      ∙ get_or-set_other (set st.first (b + 1) x.mark) (b + 2) j x.start 0 q ∙ get_or-set_other st.first (b + 1) j x.mark 0 p
 
   by_value : (j : ℕ) → (j ≡ b + 4 → ⊥) → (j ≡ b + 5 → ⊥) → (j ≡ b + 6 → ⊥) → get_or cells' j 0 ≡ get_or st.second j 0
   by_value j p q r =
@@ -77,11 +77,11 @@ module _ (e : ℕ) (x : Span) (h : Packed) (cells : List ℕ) (spans : List ℤ)
   stored_others j n (inl s) = after_link j (inl (omega (arith, s))) ∙ by_link j ∙ get_or-set_other (set cells b (get_or cells i 0)) i j (e + 1) 0 n ∙ get_or-set_other cells b j (get_or cells i 0) 0 (λ z. omega (arith, s, z))
   stored_others j n (inr s) = after_link j (inr s) ∙ by_link j ∙ get_or-set_other (set cells b (get_or cells i 0)) i j (e + 1) 0 n ∙ get_or-set_other cells b j (get_or cells i 0) 0 (λ z. omega (arith, s, z))
 
-  placed-size : length (set st.first (b + 1) x.occurrence) ≡ 608
-  placed-size = length-set st.first (b + 1) x.occurrence ∙ st.linked.size
+  placed-size : length (set st.first (b + 1) x.mark) ≡ 608
+  placed-size = length-set st.first (b + 1) x.mark ∙ st.linked.size
 
-  placed-size_2 : length (set (set st.first (b + 1) x.occurrence) (b + 2) x.start) ≡ 608
-  placed-size_2 = length-set (set st.first (b + 1) x.occurrence) (b + 2) x.start ∙ placed-size
+  placed-size_2 : length (set (set st.first (b + 1) x.mark) (b + 2) x.start) ≡ 608
+  placed-size_2 = length-set (set st.first (b + 1) x.mark) (b + 2) x.start ∙ placed-size
 
   valued_size : length (set st.second (b + 4) h.form) ≡ 608
   valued_size = length-set st.second (b + 4) h.form ∙ st.placed.size
@@ -89,23 +89,23 @@ module _ (e : ℕ) (x : Span) (h : Packed) (cells : List ℕ) (spans : List ℤ)
   valued_size_2 : length (set (set st.second (b + 4) h.form) (b + 5) h.value) ≡ 608
   valued_size_2 = length-set (set st.second (b + 4) h.form) (b + 5) h.value ∙ valued_size
 
-  pub stored_occurrence : get_or cells' (b + 1) 0 ≡ x.occurrence
+  pub stored_occurrence : get_or cells' (b + 1) 0 ≡ x.mark
   stored_occurrence =
       by_value (b + 1) (λ z. omega (arith, z)) (λ z. omega (arith, z)) (λ z. omega (arith, z)) ∙ ap (λ (l : List ℕ). get_or l (b + 1) 0) st.placed.is
-      ∙ get_or-set_other (set (set st.first (b + 1) x.occurrence) (b + 2) x.start) (b + 3) (b + 1) x.end 0 (λ z. omega (arith, z))
-      ∙ get_or-set_other (set st.first (b + 1) x.occurrence) (b + 2) (b + 1) x.start 0 (λ z. omega (arith, z))
-      ∙ get_or-set_same st.first (b + 1) x.occurrence 0 (omega (arith, few, st.linked.size))
+      ∙ get_or-set_other (set (set st.first (b + 1) x.mark) (b + 2) x.start) (b + 3) (b + 1) (x.start + length x.text.now) 0 (λ z. omega (arith, z))
+      ∙ get_or-set_other (set st.first (b + 1) x.mark) (b + 2) (b + 1) x.start 0 (λ z. omega (arith, z))
+      ∙ get_or-set_same st.first (b + 1) x.mark 0 (omega (arith, few, st.linked.size))
 
   pub stored-start : get_or cells' (b + 2) 0 ≡ x.start
   stored-start =
       by_value (b + 2) (λ z. omega (arith, z)) (λ z. omega (arith, z)) (λ z. omega (arith, z)) ∙ ap (λ (l : List ℕ). get_or l (b + 2) 0) st.placed.is
-      ∙ get_or-set_other (set (set st.first (b + 1) x.occurrence) (b + 2) x.start) (b + 3) (b + 2) x.end 0 (λ z. omega (arith, z))
-      ∙ get_or-set_same (set st.first (b + 1) x.occurrence) (b + 2) x.start 0 (omega (arith, few, placed-size))
+      ∙ get_or-set_other (set (set st.first (b + 1) x.mark) (b + 2) x.start) (b + 3) (b + 2) (x.start + length x.text.now) 0 (λ z. omega (arith, z))
+      ∙ get_or-set_same (set st.first (b + 1) x.mark) (b + 2) x.start 0 (omega (arith, few, placed-size))
 
-  pub stored_end : get_or cells' (b + 3) 0 ≡ x.end
+  pub stored_end : get_or cells' (b + 3) 0 ≡ (x.start + length x.text.now)
   stored_end =
       by_value (b + 3) (λ z. omega (arith, z)) (λ z. omega (arith, z)) (λ z. omega (arith, z)) ∙ ap (λ (l : List ℕ). get_or l (b + 3) 0) st.placed.is
-      ∙ get_or-set_same (set (set st.first (b + 1) x.occurrence) (b + 2) x.start) (b + 3) x.end 0 (omega (arith, few, placed-size_2))
+      ∙ get_or-set_same (set (set st.first (b + 1) x.mark) (b + 2) x.start) (b + 3) (x.start + length x.text.now) 0 (omega (arith, few, placed-size_2))
 
   pub stored_form : get_or cells' (b + 4) 0 ≡ h.form
   stored_form =

@@ -2,8 +2,9 @@
 -- Assumes nothing.
 use Rattle.std.specs.Prelude.{ℕ, ◌+◌, ◌*◌, ◌≤◌, ◌<◌, ◌≡◌, Bool, true, List, ℤ, length, get_or, set}
 use Rattle.base.specs.Parts.{part}
+use Rattle.block.specs.Walking.{made}
 use Rattle.card.specs.Card.{Entry, entry}
-use Rattle.card.specs.declared.Entry.{Entry as Span}
+use Rattle.block.specs.declared.walker.Item.{Item}
 use Rattle.kind.specs.Readable.{card_readable}
 use Rattle.card_reader.specs.Lists.{Lent, entry_cell, no_entry, IsKept, HoldsTo, BeginsAlike}
 use Rattle.card_reader.specs.declared.Packed.{Packed}
@@ -30,11 +31,11 @@ pub record Spanned (l : List ℤ) (e : ℕ) (a b : ℤ) (l' : List ℤ) : Type 0
   pub size : length l' ≡ 128
 
 -- all of one entry
-pub record Stored (e : ℕ) (x : Span) (h : Packed) (cells : List ℕ) (spans : List ℤ) (cells' : List ℕ) (spans' : List ℤ) : Type 0 where
+pub record Stored (e : ℕ) (x : Item) (h : Packed) (cells : List ℕ) (spans : List ℤ) (cells' : List ℕ) (spans' : List ℤ) : Type 0 where
   pub first : List ℕ
   pub second : List ℕ
-  pub linked : Linked cells x.index e first
-  pub placed : Placed first e x.occurrence x.start x.end second
+  pub linked : Linked cells x.tag e first
+  pub placed : Placed first e x.mark x.start (x.start + length x.text.now) second
   pub valued : Valued second e h.form h.value h.unit cells'
   pub spanned : Spanned spans e h.start h.end spans'
 
@@ -46,10 +47,10 @@ pub record Begun (l l' : List ℕ) (n : ℕ) : Type 0 where
   pub others : (j : ℕ) → 32 ≤ j → get_or l' j 0 ≡ get_or l j 0
 
 -- the text of an entry is read, and where it is readable the lists have one entry more
-pub record Takes (kinds t : List ℕ) (e : ℕ) (x : Span) (cells : List ℕ) (spans : List ℤ) (cells' : List ℕ) (spans' : List ℤ) (r : Bool) : Type 0 where
-  pub answer : r ≡ card_readable (get_or kinds x.index 0) t
+pub record Takes (kinds : List ℕ) (e : ℕ) (x : Item) (cells : List ℕ) (spans : List ℤ) (cells' : List ℕ) (spans' : List ℤ) (r : Bool) : Type 0 where
+  pub answer : r ≡ card_readable (get_or kinds x.tag 0) x.text.now
   pub lent : Lent cells' spans'
   pub begins : BeginsAlike cells cells'
   pub keeps : (i : ℕ) → i < 32 → IsKept cells i → IsKept cells' i
-  pub adds : r ≡ true → (card : List ℕ) (es : List Entry) → HoldsTo card es cells spans e → get_or es e no_entry ≡ entry x.index x.occurrence t
-      → t ≡ part card x.start x.end → x.start ≤ x.end → x.end ≤ length card → HoldsTo card es cells' spans' (e + 1)
+  pub adds : r ≡ true → (card : List ℕ) (es : List Entry) → HoldsTo card es cells spans e → get_or es e no_entry ≡ made entry x
+      → x.text.now ≡ part card x.start (x.start + length x.text.now) → x.start + length x.text.now ≤ length card → HoldsTo card es cells' spans' (e + 1)

@@ -1,13 +1,12 @@
 // One pass over a card's entries.
-ghost use Rattle.std.specs.Prelude.{◌≡◌, ◌<◌, ◌≤◌, length};
+ghost use Rattle.std.specs.Prelude.{◌≡◌, ◌+◌, ◌<◌, ◌≤◌, length};
 ghost use Rattle.card.specs.Card.{read_card};
 ghost use Rattle.card_reader.specs.Lists.{Lent, ReadsCard};
 ghost use Rattle.card_reader.specs.Storing.{Begun, Takes};
 
 use crate::readings::text_reading;
 use crate::store::{store_entry, wide};
-use block::Validity;
-use card::Entry;
+use block::{Item, Validity};
 
 // Brings the parameters' cells to where a card begins.
 fn begin(cells: &mut [u64])
@@ -22,32 +21,26 @@ fn begin(cells: &mut [u64])
 }
 
 // Whether the text of an entry is readable as its parameter's kind; where it is, keeps it as the entry e, if entries of the parameter are kept.
-fn take_entry(
-    kinds: &[u8],
-    text: &[u8],
-    cells: &mut [u64],
-    spans: &mut [i64],
-    e: usize,
-    entry: Entry,
-) -> bool
+fn take_entry(kinds: &[u8], cells: &mut [u64], spans: &mut [i64], e: usize, item: Item<'_>) -> bool
     requires kinds_len { length kinds.now ≡ 32 }
     requires lent { Lent cells.old spans.old }
     requires e_bound { e < 64 }
-    requires occurrence_bound { entry.occurrence < 256 }
-    ensures { Takes kinds.now text.now e entry cells.old spans.old cells.new spans.new result }
+    requires mark_bound { item.mark < 256 }
+    requires end_bound { item.start + length item.text.now ≤ 508 }
+    ensures { Takes kinds.now e item.entry cells.old spans.old cells.new spans.new result }
 {
-    let i = wide(entry.index);
+    let i = wide(item.tag);
     if i >= 32 {
         return false;
     }
     let kind = kinds[i];
     if cells[i] > 64 {
-        return kind::card_readable(kind, text);
+        return kind::card_readable(kind, item.text);
     }
-    let Some(read) = text_reading(kind, text) else {
+    let Some(read) = text_reading(kind, item.text) else {
         return false;
     };
-    store_entry(cells, spans, e, entry, read);
+    store_entry(cells, spans, e, item, read);
     true
 }
 
@@ -59,18 +52,10 @@ pub fn read_entries(kinds: &[u8], card: &[u8], cells: &mut [u64], spans: &mut [i
     ensures { ReadsCard kinds.now card.now cells.old cells.new spans.new result }
 {
     begin(cells);
-    let mut at = card::FIRST_ENTRY;
-    let mut left = card::entry_count(card);
-    let mut e = 0;
-    while left > 0 {
-        let entry = card::entry_at(card, at, left);
-        let text = &card[entry.start..entry.end];
-        if !take_entry(kinds, text, cells, spans, e, entry) {
+    for (e, item) in card::entries_of(card).enumerate() {
+        if !take_entry(kinds, cells, spans, e, item) {
             return false;
         }
-        at = entry.end;
-        left -= 1;
-        e += 1;
     }
     true
 }

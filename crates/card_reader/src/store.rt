@@ -1,11 +1,11 @@
 // The cells of an entry.
-ghost use Rattle.std.specs.Prelude.{◌≡◌, ◌<◌, ◌≤◌, length};
+ghost use Rattle.std.specs.Prelude.{◌≡◌, ◌+◌, ◌<◌, ◌≤◌, length};
 ghost use Rattle.card_reader.specs.Storing.{Put, Linked, Placed, Valued, Spanned, Stored};
 ghost use Rattle.card_reader.specs.Readings as readings;
 
 use crate::TextReading;
 use crate::packing::packed;
-use card::Entry;
+use block::Item;
 
 // The byte as an index.
 pub fn wide(n: u8) -> usize
@@ -79,15 +79,23 @@ fn span(spans: &mut [i64], e: usize, start: i64, end: i64)
 }
 
 // Stores an entry as the entry e, and what its text reads to.
-pub fn store_entry(cells: &mut [u64], spans: &mut [i64], e: usize, entry: Entry, read: TextReading)
+pub fn store_entry(
+    cells: &mut [u64],
+    spans: &mut [i64],
+    e: usize,
+    item: Item<'_>,
+    read: TextReading,
+)
     requires cells_len { length cells.old ≡ 608 }
     requires spans_len { length spans.old ≡ 128 }
-    requires index_bound { entry.index < 32 }
+    requires tag_bound { item.tag < 32 }
+    requires end_bound { item.start + length item.text.now ≤ 508 }
     requires e_bound { e < 64 }
-    ensures { Stored e entry (readings.packed read) cells.old spans.old cells.new spans.new }
+    ensures { Stored e item.entry (readings.packed read) cells.old spans.old cells.new spans.new }
 {
-    link(cells, wide(entry.index), e);
-    place(cells, e, entry.occurrence, entry.start, entry.end);
+    link(cells, wide(item.tag), e);
+    let end = item.start + item.text.len();
+    place(cells, e, item.mark, item.start, end);
     let read = packed(read);
     value(cells, e, read.form, read.value, read.unit);
     span(spans, e, read.start, read.end);

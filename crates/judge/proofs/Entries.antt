@@ -2,18 +2,18 @@
 -- Assumes nothing.
 use Rattle.std.specs.Prelude.{None}
 use Prim.Native.Nat.{ℕ, ◌≤◌}
-use mathlib.Core.Path.{◌≡◌, refl, ap, sym, ◌∙◌}
+use mathlib.Core.Path.{◌≡◌, refl, sym, ap, ◌∙◌}
 use mathlib.Core.Bool.{Bool, true, false, ◌&&◌, ◌||◌}
 use mathlib.Core.List.{List, [], ◌∷◌}
 use lib.Dec.{eqb}
 use lib.ListN.{length, get_or, get_or-eq_default}
-use Rattle.base.proofs.Tests.{and_left, and_right}
+use Rattle.std.specs.List.{list_all, list_any}
+use Rattle.base.proofs.Tests.{cond-elim}
 use Rattle.card.specs.Card.{Entry, entry}
 use Rattle.kind.specs.Readable.{card_readable}
 use Rattle.kind.specs.Table as table
-use Rattle.kind.specs.declared.Meaning.{Meaning}
 use Rattle.judge.specs.Sets.{Chosen, values_at, counts, chosen_of, conforms_to, keep}
-use Rattle.judge.specs.Verdicts.{some_value, text_counts}
+use Rattle.judge.specs.Verdicts.{some_value}
 
 -- ---- conforming
 
@@ -24,6 +24,11 @@ none_readable t = refl
 
 pub past_readable : (kinds : List ℕ) (i : ℕ) (t : List ℕ) → length kinds ≤ i → false ≡ card_readable (get_or kinds i 0) t
 past_readable kinds i t h = rw (get_or-eq_default kinds 0 {n = i} h) (none_readable t)
+
+pub conforms_all : (kinds : List ℕ) (es : List Entry) → list_all (λ (e : Entry). card_readable (get_or kinds e.index 0) e.text) es ≡ conforms_to kinds es
+unfolding conforms_to
+conforms_all kinds [] = refl
+conforms_all kinds (e ∷ es) = ap (λ (b : Bool). card_readable (get_or kinds e.index 0) e.text && b) (conforms_all kinds es)
 
 module _ (kinds : List ℕ) (i o : ℕ) (t : List ℕ) (es : List Entry) (r : Bool) (e : r ≡ card_readable (get_or kinds i 0) t) where
   pub conforms-next : r ≡ true → conforms_to kinds (entry i o t ∷ es) ≡ conforms_to kinds es
@@ -49,22 +54,23 @@ unfolding chosen_of keep
 chosen-every [] = refl
 chosen-every (e ∷ es) = ap (λ (l : List Entry). e ∷ l) (chosen-every es)
 
--- ---- whether some text counts
+-- ---- whether some text passes a test
 
-abbrev pub some_counts : Chosen → ℕ → Meaning → List ℕ → List Entry → Bool
-some_counts c i m v es = some_value (text_counts m v) (values_at i (chosen_of c es))
+module _ (test : List ℕ → Bool) (i : ℕ) where
+  pub value_any : (es : List Entry) → list_any (λ (e : Entry). eqb e.index i && test e.text) es ≡ some_value test (values_at i es)
+  unfolding values_at some_value
+  value_any [] = refl
+  value_any (e ∷ es) =
+      cond-elim (λ (vs : List (List ℕ)). ((eqb e.index i && test e.text) || list_any (λ (e : Entry). eqb e.index i && test e.text) es) ≡ some_value test vs) (eqb e.index i)
+      (λ t. rw t (ap (λ (b : Bool). test e.text || b) (value_any es))) (λ f. rw f (value_any es))
 
-module _ (c : Chosen) (i : ℕ) (m : Meaning) (v : List ℕ) (j o : ℕ) (t : List ℕ) (es : List Entry) (under : Bool) (k : under ≡ (counts c o && eqb j i)) where
-  module _ (b : Bool) (h : under ≡ true) (g : b ≡ text_counts m v t) where
-    some_step : some_counts c i m v (entry j o t ∷ es) ≡ (b || some_counts c i m v es)
-    unfolding chosen_of values_at some_value keep
-    some_step =
-        let both : (counts c o && eqb j i) ≡ true = sym k ∙ h in
-        rw (and_left (counts c o) (eqb j i) both, and_right (counts c o) (eqb j i) both, ← g)
-
-    pub some_here : b ≡ true → true ≡ some_counts c i m v (entry j o t ∷ es)
-    some_here f = sym (some_step ∙ ap (λ (y : Bool). y || some_counts c i m v es) f)
-
-pub some_end : (c : Chosen) (i : ℕ) (m : Meaning) (v : List ℕ) → false ≡ some_counts c i m v []
-unfolding chosen_of values_at some_value keep
-some_end c i m v = refl
+  pub chosen_any : (c : Chosen) (es : List Entry) → list_any (λ (e : Entry). (counts c e.occurrence && eqb e.index i) && test e.text) es ≡ some_value test (values_at i (chosen_of c es))
+  unfolding chosen_of keep values_at some_value
+  chosen_any c [] = refl
+  chosen_any c (e ∷ es) = go (counts c e.occurrence) (eqb e.index i) refl refl (chosen_any c es)
+    where
+      go : (u w : Bool) → counts c e.occurrence ≡ u → eqb e.index i ≡ w → list_any (λ (x : Entry). (counts c x.occurrence && eqb x.index i) && test x.text) es ≡ some_value test (values_at i (chosen_of c es))
+          → list_any (λ (x : Entry). (counts c x.occurrence && eqb x.index i) && test x.text) (e ∷ es) ≡ some_value test (values_at i (chosen_of c (e ∷ es)))
+      go true true p q again = rw (p, q) (ap (λ (b : Bool). test e.text || b) again)
+      go true false p q again = rw (p, q) again
+      go false w p q again = rw p again

@@ -26,17 +26,7 @@ pub fn conforms(kinds: &[u8], card: &[u8]) -> bool
     requires { read_card card.now ≡ Validity.WellFormed }
     ensures { result ≡ conforms_to kinds.now (entries_of card.now) }
 {
-    let mut at = card::FIRST_ENTRY;
-    let mut left = card::entry_count(card);
-    while left > 0 {
-        let e = card::entry_at(card, at, left);
-        if !entry_conforms(kinds, e.index, &card[e.start..e.end]) {
-            return false;
-        }
-        at = e.end;
-        left -= 1;
-    }
-    true
+    card::entries_of(card).all(|e| entry_conforms(kinds, e.tag, e.text))
 }
 
 // Whether an entry of an occurrence counts, and stands under the parameter, where `same` says that it has its index.
@@ -54,17 +44,6 @@ pub fn some_counts(card: &[u8], chosen: Chosen, index: u8, meaning: Meaning, val
     requires { read_card card.now ≡ Validity.WellFormed }
     ensures { result ≡ some_value (text_counts meaning value.now) (values_at index (chosen_of chosen (entries_of card.now))) }
 {
-    let mut at = card::FIRST_ENTRY;
-    let mut left = card::entry_count(card);
-    while left > 0 {
-        let e = card::entry_at(card, at, left);
-        if is_under(chosen, e.occurrence, e.index == index)
-            && text_counts(meaning, value, &card[e.start..e.end])
-        {
-            return true;
-        }
-        at = e.end;
-        left -= 1;
-    }
-    false
+    card::entries_of(card).any(|e| is_under(chosen, e.mark, e.tag == index)
+        && text_counts(meaning, value, e.text))
 }

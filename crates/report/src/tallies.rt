@@ -1,37 +1,19 @@
 // The rows are raised in steps, one row at each: the first pass over them clears them, and then there is one pass for each card.
 ghost use Rattle.std.specs.Prelude.{◌≡◌, ℕ, ◌<◌, ◌≤◌, ◌%◌};
 ghost use Rattle.card.specs.Card.{read_card};
-ghost use Rattle.report.specs.Steps.{raise, step_index, step_tally, stepped, count_value, ValuesOf, Small, Raisable, Ready};
+ghost use Rattle.report.specs.Steps.{raise, step_index, step_tally, stepped, ValuesOf, Small, Raisable, Ready};
 
 use crate::Tally;
 use block::Validity;
-
-// One value more, where it is under the parameter.
-fn count_value(values: u32, same: bool) -> u32
-    requires { values ≤ 64 }
-    ensures { result ≡ count_value values same }
-{
-    if same {
-        return values + 1;
-    }
-    values
-}
 
 // How many values a well-formed card has under a parameter.
 fn values_of(card: &[u8], index: usize) -> u32
     requires { read_card card.now ≡ Validity.WellFormed }
     ensures { ValuesOf card.now index result }
 {
-    let mut at = card::FIRST_ENTRY;
-    let mut left = card::entry_count(card);
-    let mut values: u32 = 0;
-    while left > 0 {
-        let e = card::entry_at(card, at, left);
-        values = count_value(values, e.index as usize == index);
-        at = e.end;
-        left -= 1;
-    }
-    values
+    card::entries_of(card)
+        .filter(|e| usize::from(e.tag) == index)
+        .count() as u32
 }
 
 // A row after a card with so many values under its parameter.

@@ -26,7 +26,7 @@ use Rattle.token.specs.Match.{matches_at}
 use Rattle.sheet.specs.Sheet.{Parameter}
 use Rattle.sheet.specs.Find.{find}
 use Rattle.sheet.specs.declared.Found.{Found}
-use Rattle.card.specs.Card.{Entry, entry}
+use Rattle.card.specs.Card.{Entry}
 use Rattle.kind.specs.Table.{meaning_of}
 use Rattle.kind.specs.declared.Meaning.{Meaning}
 use Rattle.judge.specs.Sets.{lookup, values_at, chosen_of}
@@ -118,30 +118,6 @@ under_asked under x split asked b u e = e ∙ rw u
 
 pub not_under : (under : Bool) (x : List ℕ) (split : ℕ) (asked : List ℕ) → under ≡ false → false ≡ (under && matches_at x split asked)
 not_under under x split asked u = rw u
-
-abbrev pub some_asked : ℕ → List ℕ → ℕ → List Entry → Bool
-some_asked split asked i es = some_value (λ x. matches_at x split asked) (values_at i es)
-
-module _ (split : ℕ) (asked : List ℕ) (i j o : ℕ) (t : List ℕ) (es : List Entry) (b : Bool) (e : b ≡ (eqb j i && matches_at t split asked)) where
-  pub asked_here : b ≡ true → true ≡ some_asked split asked i (entry j o t ∷ es)
-  unfolding values_at some_value
-  asked_here h = go (eqb j i) refl
-    where
-      go : (u : Bool) → eqb j i ≡ u → true ≡ some_asked split asked i (entry j o t ∷ es)
-      go true p = let m : matches_at t split asked ≡ true = sym (ap (λ (x : Bool). x && matches_at t split asked) p) ∙ sym e ∙ h in rw (p, m)
-      go false p = let z : false ≡ true = sym (ap (λ (x : Bool). x && matches_at t split asked) p) ∙ sym e ∙ h in cc
-
-  pub asked_next : b ≡ false → some_asked split asked i (entry j o t ∷ es) ≡ some_asked split asked i es
-  unfolding values_at some_value
-  asked_next h = go (eqb j i) refl
-    where
-      go : (u : Bool) → eqb j i ≡ u → some_asked split asked i (entry j o t ∷ es) ≡ some_asked split asked i es
-      go true p = let m : matches_at t split asked ≡ false = sym (ap (λ (x : Bool). x && matches_at t split asked) p) ∙ sym e ∙ h in rw (p, m)
-      go false p = rw p
-
-pub asked_end : (split : ℕ) (asked : List ℕ) (i : ℕ) → false ≡ some_asked split asked i []
-unfolding values_at some_value
-asked_end split asked i = refl
 
 -- ---- the rows of a query
 

@@ -15,34 +15,12 @@ use block::Validity;
 use judge::Chosen;
 use query::{Row, Rows};
 
-// Whether an entry's text belongs to a parameter and is a token that is asked for.
-fn entry_asked(under: bool, split: usize, asked: &[u8], text: &[u8]) -> bool
-    ensures { result ≡ (under && matches_at text.now split asked.now) }
-{
-    if under {
-        return token::matches_at(text, split, asked);
-    }
-    false
-}
-
 // Whether some text under a parameter is a token that is asked for.
 fn some_token(card: &[u8], index: u8, split: usize, asked: &[u8]) -> bool
     requires { read_card card.now ≡ Validity.WellFormed }
     ensures { result ≡ some_value (λ x. matches_at x split asked.now) (values_at index (entries_of card.now)) }
 {
-    let mut at = card::FIRST_ENTRY;
-    let mut left = card::entry_count(card);
-    while left > 0 {
-        let e = card::entry_at(card, at, left);
-        let start = e.start;
-        let end = e.end;
-        if entry_asked(e.index == index, split, asked, &card[start..end]) {
-            return true;
-        }
-        at = end;
-        left -= 1;
-    }
-    false
+    card::entries_of(card).any(|e| e.tag == index && token::matches_at(e.text, split, asked))
 }
 
 // What a text says of the texts under a parameter of a kind.

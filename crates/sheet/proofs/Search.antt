@@ -11,9 +11,9 @@ use mathlib.Core.List.{List, [], ◌∷◌}
 use Rattle.std.specs.Option.{option_map, option_map_or}
 use Rattle.std.specs.List.{slice_get}
 use Rattle.base.specs.Lists.{equal}
-use Rattle.sheet.specs.Sheet.{Parameter, kind_at}
-use Rattle.sheet.specs.Coming.{read}
-use Rattle.sheet.specs.declared.parameter.Parameter.{Parameter as Span}
+use Rattle.sheet.specs.Sheet.{Parameter, kind_at, parameter}
+use Rattle.block.specs.Walking.{made}
+use Rattle.block.specs.declared.walker.Item.{Item}
 use Rattle.sheet.specs.declared.Found.{Found}
 use Rattle.sheet.specs.Find.{found_at, find_from, find}
 
@@ -46,10 +46,10 @@ module _ (i c : ℕ) (n : List ℕ) (xs : List Parameter) (answer : Option Found
 
 -- ---- the kind by index, 0 past the last
 
-pub kind_got : (ps : List Parameter) (i : ℕ) (r : Option Span) → option_map read r ≡ slice_get ps i → option_map_or (λ (p : Span). p.kind) r 0 ≡ kind_at i ps
+pub kind_got : (ps : List Parameter) (i : ℕ) (r : Option Item) → option_map (made parameter) r ≡ slice_get ps i → option_map_or (λ (p : Item). p.tag) r 0 ≡ kind_at i ps
 unfolding kind_at
 kind_got [] i None e = refl
 kind_got [] i (Some p) e = cc
 kind_got (q ∷ ps) zero None e = cc
-kind_got (q ∷ ps) zero (Some p) e = let same : read p ≡ q = cc in ap (λ (x : Parameter). x.kind) same
+kind_got (q ∷ ps) zero (Some p) e = let same : made parameter p ≡ q = cc in ap (λ (x : Parameter). x.kind) same
 kind_got (q ∷ ps) (suc i) r e = kind_got ps i r e

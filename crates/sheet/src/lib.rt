@@ -1,20 +1,19 @@
 // Parameter sheets: blocks of 512 bytes that list the parameters of a catalogue, each with its kind, its bundle and its name. A
 // reader asks `read_sheet` first; the parameters of a well-formed sheet are then found by name with `find`, and `kinds` gives their
-// kinds by index.
+// kinds by index. A parameter is an item of the block: its tag is its kind (1 string, 2 number, 3 date, 4 token, 5 reference, 6 period, 7
+// bundle), its mark its bundle (0, or a bundle's index plus 1), and its text its name.
 #![tactic(auto)]
-
-mod parameter;
 
 ghost use Rattle.std.specs.Prelude.{◌≡◌};
 ghost use Rattle.block.specs.Seal.{HasSize};
 ghost use Rattle.sheet.specs.Sheet.{parameter, parameter_count, parameters_of, is_kind, is_parameter, are_parameters, clashes, absent, distinct, kind_at, has_parent, have_parents, are_right, sheet_layout, read_sheet};
-ghost use Rattle.sheet.specs.Coming.{coming, TableBy};
+ghost use Rattle.block.specs.Walking.{coming};
+ghost use Rattle.sheet.specs.Tables.{TableBy};
 ghost use Rattle.sheet.specs.Find.{find, enter, kinds_of, parents_of};
 
 use base::kind::{BUNDLE, PERIOD, STRING};
 use base::name::is_name;
-use block::{Integrity, Validity};
-use parameter::{Parameter, Parameters};
+use block::{Integrity, Item, Validity, Walker};
 
 // A parameter that is found by its name: its index and its kind.
 #[derive(Clone, Copy)]
@@ -40,10 +39,10 @@ fn is_parameter(marked: bool, kind: u8, bundle: u8, name: &[u8]) -> bool
 }
 
 // Whether the kinds and the names of the parameters are right.
-fn are_parameters(mut parameters: Parameters<'_>, marked: bool) -> bool
-    ensures { result ≡ are_parameters marked (coming parameters.entry) }
+fn are_parameters(mut parameters: Walker<'_>, marked: bool) -> bool
+    ensures { result ≡ are_parameters marked (coming parameter parameters.entry) }
 {
-    parameters.all(|p| is_parameter(marked, p.kind, p.bundle, p.name))
+    parameters.all(|p| is_parameter(marked, p.tag, p.mark, p.text))
 }
 
 // Whether the same name is one too many in the bundles `a` and `c`: "members of different bundles may share a name; no other two
@@ -56,18 +55,18 @@ fn clashes(a: u8, c: u8, same: bool) -> bool
 }
 
 // Whether none of the parameters has a name that clashes with this one in the bundle.
-fn absent(mut parameters: Parameters<'_>, bundle: u8, name: &[u8]) -> bool
-    ensures { result ≡ absent bundle name.now (coming parameters.entry) }
+fn absent(mut parameters: Walker<'_>, bundle: u8, name: &[u8]) -> bool
+    ensures { result ≡ absent bundle name.now (coming parameter parameters.entry) }
 {
-    parameters.all(|p| !clashes(p.bundle, bundle, p.name == name))
+    parameters.all(|p| !clashes(p.mark, bundle, p.text == name))
 }
 
 // Whether no name is twice among the parameters.
-fn distinct(mut parameters: Parameters<'_>) -> bool
-    ensures { result ≡ distinct (coming parameters.entry) }
+fn distinct(mut parameters: Walker<'_>) -> bool
+    ensures { result ≡ distinct (coming parameter parameters.entry) }
 {
     while let Some(p) = parameters.next() {
-        if !absent(parameters, p.bundle, p.name) {
+        if !absent(parameters, p.mark, p.text) {
             return false;
         }
     }
@@ -75,32 +74,32 @@ fn distinct(mut parameters: Parameters<'_>) -> bool
 }
 
 // The kind of the parameter with the index, 0 past the last.
-fn kind_at(mut parameters: Parameters<'_>, index: u8) -> u8
-    ensures { result ≡ kind_at index (coming parameters.entry) }
+fn kind_at(mut parameters: Walker<'_>, index: u8) -> u8
+    ensures { result ≡ kind_at index (coming parameter parameters.entry) }
 {
-    parameters.nth(usize::from(index)).map_or(0, |p| p.kind)
+    parameters.nth(usize::from(index)).map_or(0, |p| p.tag)
 }
 
 // Whether a parameter of this kind stands at the top, or is no bundle and stands in one.
 #[tactic(auto, unfolding(crate::specs::Sheet::has_parent))]
-fn has_parent(parameters: Parameters<'_>, kind: u8, bundle: u8) -> bool
-    ensures { result ≡ has_parent (coming parameters.entry) kind bundle }
+fn has_parent(parameters: Walker<'_>, kind: u8, bundle: u8) -> bool
+    ensures { result ≡ has_parent (coming parameter parameters.entry) kind bundle }
 {
     bundle == 0 || (kind != BUNDLE && kind_at(parameters, bundle - 1) == BUNDLE)
 }
 
 // Whether it is so with each of the parameters.
-fn have_parents(parameters: Parameters<'_>) -> bool
-    ensures { result ≡ have_parents (coming parameters.entry) (coming parameters.entry) }
+fn have_parents(parameters: Walker<'_>) -> bool
+    ensures { result ≡ have_parents (coming parameter parameters.entry) (coming parameter parameters.entry) }
 {
     let mut rest = parameters;
-    rest.all(|p| has_parent(parameters, p.kind, p.bundle))
+    rest.all(|p| has_parent(parameters, p.tag, p.mark))
 }
 
 // Whether kinds, names and bundles of the parameters are right.
 #[tactic(auto, unfolding(crate::specs::Sheet::are_right))]
-fn are_right(parameters: Parameters<'_>, marked: bool) -> bool
-    ensures { result ≡ are_right marked (coming parameters.entry) }
+fn are_right(parameters: Walker<'_>, marked: bool) -> bool
+    ensures { result ≡ are_right marked (coming parameter parameters.entry) }
 {
     are_parameters(parameters, marked) && distinct(parameters) && have_parents(parameters)
 }
@@ -114,8 +113,8 @@ fn sheet_layout(sheet: &[u8]) -> bool
         return false;
     }
     are_right(
-        Parameters {
-            sheet,
+        Walker {
+            block: sheet,
             at: 2,
             left: sheet[1],
         },
@@ -149,6 +148,18 @@ pub fn parameter_count(sheet: &[u8]) -> u8
     sheet[1]
 }
 
+// The parameters of a well-formed sheet.
+fn parameters(sheet: &[u8]) -> Walker<'_>
+    requires { read_sheet sheet.now ≡ Validity.WellFormed }
+    ensures { coming parameter result ≡ parameters_of sheet.now }
+{
+    Walker {
+        block: sheet,
+        at: 2,
+        left: sheet[1],
+    }
+}
+
 // Index and kind of the parameter that has the name in a bundle (0 at the top, else the bundle's index plus 1), on a well-formed
 // sheet.
 pub fn find(sheet: &[u8], bundle: u8, name: &[u8]) -> Option<Found>
@@ -156,12 +167,9 @@ pub fn find(sheet: &[u8], bundle: u8, name: &[u8]) -> Option<Found>
     ensures { result ≡ find bundle name.now (parameters_of sheet.now) }
 {
     let mut index: u8 = 0;
-    for p in Parameters::of(sheet) {
-        if p.bundle == bundle && p.name == name {
-            return Some(Found {
-                index,
-                kind: p.kind,
-            });
+    for p in parameters(sheet) {
+        if p.mark == bundle && p.text == name {
+            return Some(Found { index, kind: p.tag });
         }
         index += 1;
     }
@@ -180,13 +188,13 @@ pub fn enter(sheet: &[u8], bundle: u8, name: &[u8]) -> u8
 }
 
 // A part of each parameter of a well-formed sheet by its index, and 0 past the last.
-fn table<F: Fn(Parameter<'_>) -> u8>(sheet: &[u8], part: F) -> [u8; 32]
+fn table<F: Fn(Item<'_>) -> u8>(sheet: &[u8], part: F) -> [u8; 32]
     requires sheet_value { read_sheet sheet.now ≡ Validity.WellFormed }
     requires part_callable { F.IsAlwaysCallable part }
     ensures { TableBy (F.post part) sheet.now result }
 {
     let mut table = [0u8; 32];
-    for (i, p) in Parameters::of(sheet).enumerate() {
+    for (i, p) in parameters(sheet).enumerate() {
         table[i] = part(p);
     }
     table
@@ -197,7 +205,7 @@ pub fn kinds(sheet: &[u8]) -> [u8; 32]
     requires { read_sheet sheet.now ≡ Validity.WellFormed }
     ensures { result ≡ kinds_of (parameters_of sheet.now) }
 {
-    table(sheet, |p| p.kind)
+    table(sheet, |p| p.tag)
 }
 
 // The bundles of a well-formed sheet's parameters by their index, each the bundle's index plus 1, and 0 at the top and past the last.
@@ -205,5 +213,5 @@ pub fn parents(sheet: &[u8]) -> [u8; 32]
     requires { read_sheet sheet.now ≡ Validity.WellFormed }
     ensures { result ≡ parents_of (parameters_of sheet.now) }
 {
-    table(sheet, |p| p.bundle)
+    table(sheet, |p| p.mark)
 }

@@ -143,19 +143,12 @@ fn some_chosen(
     requires placed { Placed filter.now test }
     ensures { result ≡ some_chosen (parameters_of sheet.now) spot.bundle (entries_of card.now) chosen (filter_at spot.levels filter.now spot.close spot.at) index meaning (test_of filter.now test).value (entries_of card.now) }
 {
-    let mut at = card::FIRST_ENTRY;
-    let mut left = card::entry_count(card);
-    while left > 0 {
-        let e = card::entry_at(card, at, left);
-        let start = e.start;
-        let end = e.end;
-        let under = is_under(chosen, e.occurrence, e.index == index);
-        let counts = entry_counts(under, filter, test, meaning, &card[start..end]);
-        if entry_chosen(counts, sheet, card, filter, e.occurrence, spot) {
+    for e in card::entries_of(card) {
+        let under = is_under(chosen, e.mark, e.tag == index);
+        let counts = entry_counts(under, filter, test, meaning, e.text);
+        if entry_chosen(counts, sheet, card, filter, e.mark, spot) {
             return true;
         }
-        at = end;
-        left -= 1;
     }
     false
 }

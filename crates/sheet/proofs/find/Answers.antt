@@ -3,7 +3,9 @@ use native.Mathlib.Omega.{arith}
 use mathlib.Core.Path.{sym, ap, ◌∙◌}
 use lib.ListN.{length}
 use Rattle.base.proofs.Lists.{pointwise_equal}
-use Rattle.sheet.specs.Coming.{coming}
+use Rattle.block.proofs.Walking.{step_first, none_coming}
+use Rattle.block.specs.Walking.{coming}
+use Rattle.sheet.specs.Sheet.{parameter}
 use Rattle.sheet.proofs.Read.{sheet_count}
 use Rattle.sheet.proofs.Search.{find-start, find-here, find_other_bundle, find_other_name, find_end}
 use Rattle.sheet.proofs.find.Goals as goal
@@ -11,20 +13,20 @@ use Rattle.sheet.proofs.find.Goals.{else-p-bundle-via-then-p-bundle+else-eq, els
 
 pub loop-p-init : goal.loop-p-init
 loop-p-init c =
-    let all = ap coming c.into_iter-p-iterator.ensures.into_iter_gives ∙ c.of-p-items.ensures in
+    let all = ap (coming parameter) c.into_iter-p-iterator.ensures.into_iter_gives ∙ c.parameters-p-items.ensures in
     (omega (arith, sheet_count c.args.sheet.now c.requires, ap length all), find-start _ _ all)
 
 pub returns-then-eq : goal.returns-then-eq
-returns-then-eq c = find-here _ _ _ _ _ c.loop-p.invariant.1 _ _ c.in-Some.ensures.steps c.if-p-bundle.true (sym (pointwise_equal _ _) ∙ sym c.if-eq.ensures)
+returns-then-eq c = find-here _ _ _ _ _ c.loop-p.invariant.1 _ _ (step_first parameter _ _ _ c.in-Some.ensures.steps) c.if-p-bundle.true (sym (pointwise_equal _ _) ∙ sym c.if-eq.ensures)
 
 pub loop-p-preserved : goal.loop-p-preserved
 loop-p-preserved c = (
-  omega (arith, c.loop-p.invariant.0, ap length c.in-Some.ensures.steps),
+  omega (arith, c.loop-p.invariant.0, ap length (step_first parameter _ _ _ c.in-Some.ensures.steps)),
   elim c.else-p-bundle.branch [
-    | else-p-bundle-via-then-p-bundle+else-eq w ↦ find_other_name _ _ _ _ _ c.loop-p.invariant.1 _ _ c.in-Some.ensures.steps (sym (pointwise_equal _ _) ∙ sym w.if-eq.ensures)
-    | else-p-bundle-via-else-p-bundle w ↦ find_other_bundle _ _ _ _ _ c.loop-p.invariant.1 _ _ c.in-Some.ensures.steps w.if-p-bundle.false
+    | else-p-bundle-via-then-p-bundle+else-eq w ↦ find_other_name _ _ _ _ _ c.loop-p.invariant.1 _ _ (step_first parameter _ _ _ c.in-Some.ensures.steps) (sym (pointwise_equal _ _) ∙ sym w.if-eq.ensures)
+    | else-p-bundle-via-else-p-bundle w ↦ find_other_bundle _ _ _ _ _ c.loop-p.invariant.1 _ _ (step_first parameter _ _ _ c.in-Some.ensures.steps) w.if-p-bundle.false
   ],
 )
 
 pub returns : goal.returns
-returns c = find_end _ _ _ _ _ c.loop-p.invariant.1 c.in-None.ensures.steps.0
+returns c = find_end _ _ _ _ _ c.loop-p.invariant.1 (none_coming parameter c.loop-p.p-iterator c.in-None.ensures.steps.0)

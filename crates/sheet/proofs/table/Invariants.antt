@@ -2,13 +2,13 @@
 use Prim.Native.Nat.{ℕ, ◌+◌, ◌≤◌}
 use mathlib.Core.Path.{◌≡◌}
 use lib.ListN.{length}
-use Rattle.sheet.specs.Sheet.{Parameter, parameters_of}
-use Rattle.sheet.specs.declared.parameter.Parameter.{Parameter as Span}
-use Rattle.sheet.specs.Coming.{read, coming}
+use Rattle.sheet.specs.Sheet.{Parameter, parameters_of, parameter}
+use Rattle.block.specs.declared.walker.Item.{Item}
+use Rattle.block.specs.Walking.{made, coming}
 use Rattle.sheet.proofs.Filling.{Filling}
 use Rattle.sheet.proofs.table.Given as goal
 
 abbrev pub invariant-loop-i : goal.invariant-loop-i
 invariant-loop-i g l =
-    (l.i-iterator.count + length (coming l.i-iterator.iter) ≤ 32)
-    × ((of : Parameter → ℕ) → ((p : Span) (n : ℕ) → goal.F-post g l.part p n → n ≡ of (read p)) → Filling of (parameters_of l.sheet) l.table l.i-iterator.count (coming l.i-iterator.iter))
+    (l.i-iterator.count + length (coming parameter l.i-iterator.iter) ≤ 32)
+    × ((of : Parameter → ℕ) → ((p : Item) (n : ℕ) → goal.F-post g l.part p n → n ≡ of (made parameter p)) → Filling of (parameters_of l.sheet) l.table l.i-iterator.count (coming parameter l.i-iterator.iter))

@@ -1,12 +1,15 @@
 -- `text_judge::judge_filter` and what it calls in a cycle meet their contracts: the text left falls, and each answers what judging
 use native.Mathlib.Omega.{arith}
+use mathlib.Core.Path.{ap, ◌∙◌}
 use Rattle.base.proofs.Tests.{and_fails}
 use Rattle.syntax.proofs.Places.{test_in_place, head_open_ahead, head_choice_order, head_choice_within, member_in_place, connective_ahead}
 use Rattle.text_judge.specs.Folds.{judged, judging}
 use Rattle.filter.proofs.Walk.{item_test, item_nothing, item_deep, item-opened, choice_deep, item-chosen, round_no_filter, round_open, round-closed, chosen_no_filter, chosen_no_member, chosen-member, item_ahead, filter_within, filter_no_item, chain_starts, chain_ends, chain_no_item, chain_takes}
 use Rattle.text_judge.proofs.Judging.{judged_cases, verdict_after, verdict_negated, verdict_inside, chosen_judged, chosen-here, chosen-next, chosen_end, member-found, member_missing}
-use Rattle.card.proofs.Entries.{entries_start}
-use Rattle.block.proofs.Items.{visited_next, visited_decides, visited_end}
+use Rattle.block.specs.Walking.{coming}
+use Rattle.block.proofs.Walking.{walked_next, walked_decides, walked_end}
+use Rattle.card.specs.Card.{entry}
+use Rattle.text_judge.specs.Members.{some_chosen}
 use borrow.Author.Rules.{rules}
 use mathlib.Core.Path.{◌∙◌}
 use Rattle.text_judge.proofs.+judging.Goals as goal
@@ -101,17 +104,19 @@ member_verdict-returns-in-None t c = member_missing _ _ _ _ _ _ _ _ c.test_found
 pub member_verdict-returns : goal.member_verdict-returns
 member_verdict-returns t c = search (and_fails, rules)
 
-pub some_chosen-loop-left-init : goal.some_chosen-loop-left-init
-some_chosen-loop-left-init t c = search (entries_start, rules)
+pub some_chosen-loop-e-init : goal.some_chosen-loop-e-init
+some_chosen-loop-e-init t c = ap (some_chosen _ _ _ _ _ _ _ _) (ap (coming entry) c.into_iter-e-iterator.ensures.into_iter_gives ∙ c.entries_of-e-items.ensures.entries)
 
 pub some_chosen-entry_chosen-requires : goal.some_chosen-entry_chosen-requires
 some_chosen-entry_chosen-requires t c = (omega (arith, c.decreases), (c.requires.sheet_value, (c.requires.card_value, (c.requires.filter_len_bound, c.requires.at_in_bounds))))
 
 pub some_chosen-returns-then-entry_chosen : goal.some_chosen-returns-then-entry_chosen
-some_chosen-returns-then-entry_chosen t c = visited_decides _ _ _ _ _ _ c.loop-left.invariant _ _ _ _ c.entry_at-e.ensures _ (chosen-here _ _ _ _ _ _ _ _ _ _ _ _ _ _ _ c.is_under-under.ensures c.entry_counts-counts.ensures c.entry_chosen.ensures c.if-entry_chosen.true)
+some_chosen-returns-then-entry_chosen t c =
+    walked_decides entry (some_chosen _ _ _ _ _ _ _ _) _ _ c.loop-e.invariant _ _ c.in-Some.ensures.steps _ (chosen-here _ _ _ _ _ _ _ _ _ _ _ _ _ _ _ c.is_under-under.ensures c.entry_counts-counts.ensures c.entry_chosen.ensures c.if-entry_chosen.true)
 
-pub some_chosen-loop-left-preserved : goal.some_chosen-loop-left-preserved
-some_chosen-loop-left-preserved t c = visited_next _ _ _ _ _ _ c.loop-left.invariant _ _ _ _ c.entry_at-e.ensures _ (chosen-next _ _ _ _ _ _ _ _ _ _ _ _ _ _ _ c.is_under-under.ensures c.entry_counts-counts.ensures c.entry_chosen.ensures c.if-entry_chosen.false)
+pub some_chosen-loop-e-preserved : goal.some_chosen-loop-e-preserved
+some_chosen-loop-e-preserved t c =
+    walked_next entry (some_chosen _ _ _ _ _ _ _ _) _ _ c.loop-e.invariant _ _ c.in-Some.ensures.steps (some_chosen _ _ _ _ _ _ _ _) (chosen-next _ _ _ _ _ _ _ _ _ _ _ _ _ _ _ c.is_under-under.ensures c.entry_counts-counts.ensures c.entry_chosen.ensures c.if-entry_chosen.false)
 
 pub some_chosen-returns : goal.some_chosen-returns
-some_chosen-returns t c = search (visited_end, chosen_end, rules)
+some_chosen-returns t c = walked_end entry (some_chosen _ _ _ _ _ _ _ _) _ c.loop-e.e-iterator c.loop-e.invariant c.in-None.ensures.steps.0 _ (chosen_end _ _ _ _ _ _ _ _)

@@ -1,13 +1,14 @@
 -- `text_judge::judge_filter` and what it calls in a cycle meet their contracts: the text left falls, and each answers what judging
 -- gathers over the tree that the reader finds there. Assumes nothing.
 use Prim.Native.Nat.{◌+◌, ◌*◌, ◌-◌}
+use mathlib.Core.Path.{◌≡◌}
 use lib.ListN.{length}
 use Rattle.sheet.specs.Sheet.{parameters_of}
 use Rattle.card.specs.Card.{entry, entries_of}
 use Rattle.text_judge.specs.Folds.{judged, judging}
 use Rattle.filter.proofs.Walk.{Chain}
 use Rattle.text_judge.proofs.Judging.{judged_cases}
-use Rattle.block.proofs.Invariants.{Visited}
+use Rattle.block.specs.Walking.{coming}
 use Rattle.syntax.specs.Scan.{test_of}
 use Rattle.syntax.specs.Reader.{filter_at}
 use Rattle.judge.specs.Sets.{chosen_of}
@@ -41,8 +42,7 @@ invariant-judge_filter-loop-link l = Chain judged judged_cases (judging l.needed
 abbrev pub decreases-judge_filter-loop-link : goal.decreases-judge_filter-loop-link
 decreases-judge_filter-loop-link l = length l.filter - l.judged.end
 
-abbrev pub invariant-some_chosen-loop-left : goal.invariant-some_chosen-loop-left
-invariant-some_chosen-loop-left l = Visited entry (some_chosen (parameters_of l.sheet) l.spot.bundle (entries_of l.card) l.chosen (filter_at l.spot.levels l.filter l.spot.close l.spot.at) l.index l.meaning (test_of l.filter l.test).value) (some_chosen (parameters_of l.sheet) l.spot.bundle (entries_of l.card) l.chosen (filter_at l.spot.levels l.filter l.spot.close l.spot.at) l.index l.meaning (test_of l.filter l.test).value (entries_of l.card)) l.card l.at l.left
-
-abbrev pub decreases-some_chosen-loop-left : goal.decreases-some_chosen-loop-left
-decreases-some_chosen-loop-left l = l.left
+abbrev pub invariant-some_chosen-loop-e : goal.invariant-some_chosen-loop-e
+invariant-some_chosen-loop-e l =
+    some_chosen (parameters_of l.sheet) l.spot.bundle (entries_of l.card) l.chosen (filter_at l.spot.levels l.filter l.spot.close l.spot.at) l.index l.meaning (test_of l.filter l.test).value (coming entry l.e-iterator)
+    ≡ some_chosen (parameters_of l.sheet) l.spot.bundle (entries_of l.card) l.chosen (filter_at l.spot.levels l.filter l.spot.close l.spot.at) l.index l.meaning (test_of l.filter l.test).value (entries_of l.card)

@@ -2,8 +2,5 @@
 use Rattle.card_reader.proofs.Reading.{Progress}
 use Rattle.card_reader.proofs.entries.read_entries.Given as goal
 
-abbrev pub invariant-loop-left : goal.invariant-loop-left
-invariant-loop-left l = Progress l.kinds l.card l.initial.cells l.cells l.spans l.at l.left l.e
-
-abbrev pub decreases-loop-left : goal.decreases-loop-left
-decreases-loop-left l = l.left
+abbrev pub invariant-loop-e : goal.invariant-loop-e
+invariant-loop-e l = Progress l.kinds l.card l.initial.cells l.cells l.spans l.e-iterator.iter l.e-iterator.count

@@ -1,19 +1,18 @@
--- `judge::sets::conforms` meets its contract: the entries to come decide. Assumes nothing.
+-- `judge::sets::conforms` meets its contract: the closure is the definition's test. Assumes nothing.
+use mathlib.Core.Path.{ap, ◌∙◌}
+use lib.ListN.{get_or}
 use borrow.Author.Rules.{rules}
-use borrow.Author.Tests.{not-true, not-false}
-use Rattle.block.proofs.Items.{visited_next, visited_decides, visited_end}
-use Rattle.card.proofs.Entries.{entries_start}
-use Rattle.judge.proofs.Entries.{conforms-next, conforms_not, conforms_end}
+use Rattle.std.proofs.lemmas.Iterator.Search.{all_from_yields_List}
+use Rattle.block.proofs.Walking.{walk_listed}
+use Rattle.card.specs.Card.{Entry, entry}
+use Rattle.kind.specs.Readable.{card_readable}
+use Rattle.judge.specs.Sets.{conforms_to}
+use Rattle.judge.proofs.Entries.{conforms_all}
 use Rattle.judge.proofs.sets.conforms.Goals as goal
 
-pub loop-left-init : goal.loop-left-init
-loop-left-init c = search (entries_start, rules)
-
-pub returns-then-not-entry_conforms : goal.returns-then-not-entry_conforms
-returns-then-not-entry_conforms c = search (visited_decides, conforms_not, not-true, rules)
-
-pub loop-left-preserved : goal.loop-left-preserved
-loop-left-preserved c = search (visited_next, conforms-next, not-false, rules)
-
 pub returns : goal.returns
-returns c = search (visited_end, conforms_end, rules)
+returns c =
+    all_from_yields_List (λ (e : Entry). card_readable (get_or c.args.kinds.now e.index 0) e.text) c.all.new.self _ _ c.all.ensures.ran (walk_listed entry c.entries_of.result)
+    (λ x b q k. search rules)
+    ∙ conforms_all c.args.kinds.now _
+    ∙ ap (conforms_to c.args.kinds.now) c.entries_of.ensures.entries

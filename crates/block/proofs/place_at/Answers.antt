@@ -1,7 +1,7 @@
--- `block::item_at` meets its contract. Assumes nothing.
+-- `block::place_at` meets its contract. Assumes nothing.
 use borrow.Author.Rules.{rules}
 use Rattle.block.proofs.Items.{item-marked, item-plain}
-use Rattle.block.proofs.item_at.Goals as goal
+use Rattle.block.proofs.place_at.Goals as goal
 
 pub returns-then-has_marks : goal.returns-then-has_marks
 returns-then-has_marks c = search (item-marked, rules)

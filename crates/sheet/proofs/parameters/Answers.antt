@@ -1,9 +1,9 @@
--- `sheet::parameter::Parameters::of` meets its contract: the walk over a well-formed sheet's parameters starts at byte 2. Assumes nothing.
+-- `sheet::parameters` meets its contract: the walk over a well-formed sheet's parameters starts at byte 2. Assumes nothing.
 use native.Mathlib.Omega.{arith}
 use mathlib.Core.Path.{refl}
 use Rattle.sheet.specs.Sheet.{parameter_count, parameters_of}
 use Rattle.sheet.proofs.Read.{sheet_length, sheet_walk}
-use Rattle.sheet.proofs.parameter.Parameters.of.Goals as goal
+use Rattle.sheet.proofs.parameters.Goals as goal
 
 pub bounds-sheet-1 : goal.bounds-sheet-1
 bounds-sheet-1 c = omega (arith, sheet_length _ c.requires)
