@@ -1,5 +1,6 @@
 -- Conforming cards: how they read, and two that there are, the card with no entries and the card with one.
 -- Assumes nothing.
+use Rattle.std.specs.Prelude.{Ok}
 use Prim.Native.Nat.{ℕ, ◌+◌, ◌-◌, ◌≤◌, ◌<◌}
 use native.Mathlib.Omega.{arith}
 use mathlib.Core.Path.{◌≡◌, refl, ap, sym, ◌∙◌, subst}
@@ -23,7 +24,6 @@ use Rattle.base.specs.Between.{between}
 use Rattle.date.specs.Texts as dates
 use Rattle.period.specs.Texts as periods
 use Rattle.token.specs.Card as tokens
-use Rattle.block.specs.declared.Validity.TheVariants.{WellFormed}
 use Rattle.base.specs.Kinds.{bundle_kind, period}
 use Rattle.sheet.specs.Sheet.{Parameter}
 use Rattle.sheet.specs.Encode.{ValueKind, WellFormedParameter, WellFormedSheet}
@@ -62,7 +62,7 @@ module _ {ps : List Parameter} {b : List ℕ} {es : List Entry} (c : Conforms ps
   conforms_accepted i = rw (conforms_reads.reading, conforms_reads.number, conforms_reads.entries, (entries_iff ps es).1 c.entries)
 
 -- a card that reads as well formed, and whose entries conform, conforms
-pub reads_conforms : (ps : List Parameter) (b : List ℕ) → Bytes b → read_card b ≡ WellFormed → conforms ps (entries_of b) ≡ true → Conforms ps b (entries_of b)
+pub reads_conforms : (ps : List Parameter) (b : List ℕ) → Bytes b → read_card b ≡ (Ok tt) → conforms ps (entries_of b) ≡ true → Conforms ps b (entries_of b)
 reads_conforms ps b bytes r h =
     let w = card_of_lem b bytes r in
     let e = ((card_reads_iff b w.marked w.number w.entries).1 (w.well_formed, w.encoded)).entries in

@@ -5,6 +5,7 @@
 -- tests share one group, so `tests_decided` is by induction on their list: the places rise, so a line of a later test has a later place
 -- (`later_place`). `check_table` reads check's answer off.
 -- Assumes nothing.
+use Rattle.std.specs.Prelude.{Result, ⊤}
 use Prim.Native.Nat.{ℕ, ◌≤◌, ◌<◌}
 use native.Mathlib.Nat.{le_of_eq}
 use native.Mathlib.Omega.{arith}
@@ -21,7 +22,6 @@ use Rattle.base.specs.Bytes.{Bytes}
 use Rattle.base.proofs.Tests.{or_either, or_left, or_right, both_ways, cond-elim}
 use Rattle.block.specs.Words.{word}
 use Rattle.block.specs.Sum.{check_sum}
-use Rattle.block.specs.declared.Validity.{Validity}
 use Rattle.sheet.specs.Sheet.{Parameter, parameters_of}
 use Rattle.sheet.specs.Encode.{WellFormedSheet, SheetBlock}
 use Rattle.sheet.proofs.Sheets.{sheet_reads_iff}
@@ -46,6 +46,7 @@ use Rattle.answer.proofs.Faults.{outcome}
 use Rattle.answer.proofs.Inputs.{tests_next}
 use Rattle.answer.proofs.Blocks.{sheet_reads_to}
 use Rattle.refusal.proofs.Order.{apart_at, before_itself, before_ranks, later-group, later_place, no_lower_rank}
+use Rattle.block.specs.declared.Flaw.{Flaw}
 
 -- ---- the sheet
 
@@ -70,7 +71,7 @@ module _ (sheet : List ℕ) where
   sheet_none a b s m q (line_2 u) = u b
   sheet_none a b s m q (line_3 u) = u s
 
-  sheet_step_lem : {r : Validity} → ReadsTo sheet (SheetBlock sheet) r → Decided (OfSheet sheet) (SheetLine sheet) (sheet_step r (parameters_of sheet))
+  sheet_step_lem : {r : Result ⊤ Flaw} → ReadsTo sheet (SheetBlock sheet) r → Decided (OfSheet sheet) (SheetLine sheet) (sheet_step r (parameters_of sheet))
   unfolding rank
   sheet_step_lem (size_wrong u) =
       one_decides (record { holds = line_1 u; first = sheet_first_lem 1 (omega arith) (λ l. absurd (omega arith)) (λ l. absurd (omega arith)) })

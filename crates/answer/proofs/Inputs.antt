@@ -17,7 +17,6 @@ use borrow.Author.Tests.{ne_eqb, le-ltb}
 use Rattle.base.specs.Lists.{all_empty, all_cons}
 use Rattle.base.specs.Kinds.{bundle_kind}
 use Rattle.base.proofs.Tests.{cond-elim}
-use Rattle.block.specs.declared.Validity.{Validity}
 use Rattle.sheet.specs.Sheet.{Parameter, parameters_of, read_sheet}
 use Rattle.sheet.specs.Encode.{WellFormedSheet, SheetBlock}
 use Rattle.sheet.specs.declared.Found.{Found}
@@ -40,6 +39,7 @@ use Rattle.answer.specs.Demand.{TestRules, filter_tests}
 use Rattle.answer.proofs.Outcomes.{TestOutcome, test_means, test_refused, TestsOutcome, all_mean, one_refused, AtMost, found_at_most, stop_at_most}
 use Rattle.answer.proofs.Faults.{outcome}
 use Rattle.refusal.specs.declared.Refusal.{Refusal}
+use Rattle.block.specs.declared.Flaw.{Flaw}
 
 -- ---- tests
 
@@ -115,11 +115,11 @@ pub at_most_number : {A : Type 0} {most : ℕ} {s : Step A} → AtMost most s �
 at_most_number found_at_most n p e = absurd (let z : ◌≡◌ {A = ℕ} 0 1 = cc in omega arith)
 at_most_number (stop_at_most m q l) n p e = let z : m ≡ n = cc in omega arith
 
-pub sheet_at_most : (r : Validity) (ps : List Parameter) → AtMost 18 (sheet_step r ps)
-sheet_at_most Validity.WellFormed ps = found_at_most
-sheet_at_most Validity.WrongSize ps = stop_at_most 1 0 (omega arith)
-sheet_at_most Validity.WrongSum ps = stop_at_most 2 0 (omega arith)
-sheet_at_most Validity.WrongLayout ps = stop_at_most 3 0 (omega arith)
+pub sheet_at_most : (r : Result ⊤ Flaw) (ps : List Parameter) → AtMost 18 (sheet_step r ps)
+sheet_at_most (Ok tt) ps = found_at_most
+sheet_at_most (Err Flaw.Size) ps = stop_at_most 1 0 (omega arith)
+sheet_at_most (Err Flaw.Sum) ps = stop_at_most 2 0 (omega arith)
+sheet_at_most (Err Flaw.Layout) ps = stop_at_most 3 0 (omega arith)
 
 tree_at_most : (text : List ℕ) (o : Option Tree) → AtMost 18 (tree_step text o)
 tree_at_most text (some f) = found_at_most

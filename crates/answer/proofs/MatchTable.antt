@@ -3,6 +3,7 @@
 -- comes before them (`one_decided`). `decided_then` puts that behind what check decides, since the card's lines are in later groups than
 -- all of check's (`one_group`). The theorem is over any question with lines of its own (`match_table_by`); that of filters is an instance.
 -- Assumes nothing.
+use Rattle.std.specs.Prelude.{Err, Result, ⊤}
 use Prim.Native.Nat.{ℕ, ◌≤◌, ◌<◌}
 use native.Mathlib.Decide.{ℕ_discrete}
 use native.Mathlib.Nat.{le_refl, le_of_eq}
@@ -17,7 +18,6 @@ use Rattle.base.specs.Bytes.{Bytes}
 use Rattle.base.proofs.Tests.{both_ways}
 use Rattle.block.specs.Words.{word}
 use Rattle.block.specs.Sum.{check_sum}
-use Rattle.block.specs.declared.Validity.{Validity}
 use Rattle.sheet.specs.Sheet.{Parameter}
 use Rattle.sheet.specs.Encode.{SheetBlock}
 use Rattle.card.specs.Card.{Entry, entries_of, read_card}
@@ -37,6 +37,7 @@ use Rattle.answer.proofs.Outcomes.{ReadsTo, size_wrong, sum_wrong, layout_wrong,
 use Rattle.answer.proofs.Blocks.{card_reads_to}
 use Rattle.refusal.proofs.Order.{apart_at, later-group, no_lower_rank}
 use Rattle.answer.proofs.CheckTable.{sheet_parameters, check-group, inputs_decided}
+use Rattle.block.specs.declared.Flaw.{Flaw}
 
 -- ---- one card
 
@@ -80,7 +81,7 @@ module _ (sheet : List ℕ) where
         one_decides (record { holds = (l, refl); first = λ m q k. no_lower_rank (card-group k.0 ∙ sym (card-group l)) (le_of_eq (sym k.1)) (lowest m k.0) })
 
     module _ (bytes : Bytes b) (size : length b ≡ 512) (i : ℕ) where
-      card-step : (r : Validity) → read_card b ≡ r → ReadsTo b (CardBlock b) r → (fits : Bool) → conforms ps (entries_of b) ≡ fits
+      card-step : (r : Result ⊤ Flaw) → read_card b ≡ r → ReadsTo b (CardBlock b) r → (fits : Bool) → conforms ps (entries_of b) ≡ fits
           → Decided AcceptedAs (LineAt i) (card_step r fits (card_of b) i)
       unfolding rank
       card-step r e (size_wrong u) fits h = absurd (u size)
@@ -108,7 +109,7 @@ abbrev pub AskedOn : List ℕ → Question → Type 0
 AskedOn sheet q = (s : SheetBlock sheet) × (s.parameters ≡ q.parameters)
 
 module _ (sheet card : List ℕ) where
-  wrong_size_lem : {r : Validity} → ReadsTo card (CardBlock card) r → (length card ≡ 512 → ⊥) → r ≡ Validity.WrongSize
+  wrong_size_lem : {r : Result ⊤ Flaw} → ReadsTo card (CardBlock card) r → (length card ≡ 512 → ⊥) → r ≡ (Err Flaw.Size)
   wrong_size_lem (size_wrong u) n = refl
   wrong_size_lem (sum_wrong a u) n = absurd (n a)
   wrong_size_lem (layout_wrong a b u) n = absurd (n a)

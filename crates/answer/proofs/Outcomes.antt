@@ -1,6 +1,6 @@
 -- How the steps of the operations come out, in the rules' words: the cases that the proofs go by.
 -- Assumes nothing.
-use Rattle.std.specs.Prelude.{Ok, Result, ⊤}
+use Rattle.std.specs.Prelude.{Ok, Result, ⊤, Err}
 use Prim.Native.Nat.{ℕ, ◌+◌, ◌≤◌, ◌<◌}
 use mathlib.Core.Path.{◌≡◌}
 use mathlib.Core.Bool.{true, false}
@@ -9,7 +9,6 @@ use lib.ListN.{length}
 use Rattle.base.specs.Lists.{All}
 use Rattle.block.specs.Words.{word}
 use Rattle.block.specs.Sum.{check_sum}
-use Rattle.block.specs.declared.Validity.{Validity}
 use Rattle.base.specs.Kinds.{bundle_kind}
 use Rattle.sheet.specs.Sheet.{Parameter}
 use Rattle.card.specs.Card.{Entry, record_number, entries_of}
@@ -26,15 +25,16 @@ use Rattle.answer.specs.Numbers.{Numbered}
 use Rattle.answer.specs.Demand.{TestRules, Meaningful}
 use Rattle.answer.specs.Selection.{matching_cards, matching_numbers, RefusesCard}
 use Rattle.refusal.specs.declared.Refusal.{Refusal}
+use Rattle.block.specs.declared.Flaw.{Flaw}
 
 -- ---- blocks
 
 -- what reading says of a block's bytes, where IsBlock says that they are a block that can be written
-pub data ReadsTo (b : List ℕ) (IsBlock : Type 0) : Validity → Type 0 where
-  size_wrong : (length b ≡ 512 → ⊥) → ReadsTo b IsBlock Validity.WrongSize
-  sum_wrong : length b ≡ 512 → (check_sum b ≡ word b 508 → ⊥) → ReadsTo b IsBlock Validity.WrongSum
-  layout_wrong : length b ≡ 512 → check_sum b ≡ word b 508 → (IsBlock → ⊥) → ReadsTo b IsBlock Validity.WrongLayout
-  all_right : length b ≡ 512 → check_sum b ≡ word b 508 → IsBlock → ReadsTo b IsBlock Validity.WellFormed
+pub data ReadsTo (b : List ℕ) (IsBlock : Type 0) : Result ⊤ Flaw → Type 0 where
+  size_wrong : (length b ≡ 512 → ⊥) → ReadsTo b IsBlock (Err Flaw.Size)
+  sum_wrong : length b ≡ 512 → (check_sum b ≡ word b 508 → ⊥) → ReadsTo b IsBlock (Err Flaw.Sum)
+  layout_wrong : length b ≡ 512 → check_sum b ≡ word b 508 → (IsBlock → ⊥) → ReadsTo b IsBlock (Err Flaw.Layout)
+  all_right : length b ≡ 512 → check_sum b ≡ word b 508 → IsBlock → ReadsTo b IsBlock (Ok tt)
 
 -- ---- tests
 

@@ -5,7 +5,7 @@
 -- laws are about cards: one that is accepted is well formed (`card_accepted`), and verdicts that agree on every card give one answer
 -- (`same-verdicts`).
 -- Assumes nothing.
-use Rattle.std.specs.Prelude.{Err, Ok, Result}
+use Rattle.std.specs.Prelude.{Err, Ok, Result, ⊤}
 use Prim.Native.Nat.{ℕ, ◌≤◌}
 use native.Mathlib.Omega.{arith}
 use mathlib.Core.Path.{◌≡◌, refl, sym, ap, ◌∙◌}
@@ -15,7 +15,6 @@ use mathlib.Core.List.{List}
 use lib.Dec.{eqb, ltb}
 use lib.ListN.{length}
 use borrow.Author.Tests.{ltb-false}
-use Rattle.block.specs.declared.Validity.{Validity}
 use Rattle.sheet.specs.Sheet.{Parameter, parameters_of, read_sheet}
 use Rattle.card.specs.Card.{record_number, entries_of, read_card}
 use Rattle.syntax.specs.Tree.{Tree, tests_of}
@@ -27,6 +26,7 @@ use Rattle.refusal.proofs.Steps.{bind_found}
 use Rattle.refusal.specs.Steps.{Step, found, stop, ◌>>=◌, answer}
 use Rattle.answer.specs.Operations.{tree_step, accept_filter, tests_step, accept_sheet, sheet_step, Inputs, accept_inputs, Card, card_step, accept_card, check_answer, Question, match_by, filter_question, match_answer}
 use Rattle.answer.specs.Passing.{Passing, text_question}
+use Rattle.block.specs.declared.Flaw.{Flaw}
 
 -- ---- check has passed them
 
@@ -34,11 +34,11 @@ inputs_found : (s : Step Inputs) (n : ℕ) → answer (s >>= λ p. found (count 
 inputs_found (found p) n h = (p, refl)
 inputs_found (stop m p) n h = absurd (let z : ◌≡◌ {A = ℕ} 0 1 = cc in omega arith)
 
-sheet_found : (r : Validity) (ps qs : List Parameter) → sheet_step r ps ≡ found qs → (r ≡ Validity.WellFormed) × (ps ≡ qs)
-sheet_found Validity.WellFormed ps qs h = (refl, cc)
-sheet_found Validity.WrongSize ps qs h = (cc, cc)
-sheet_found Validity.WrongSum ps qs h = (cc, cc)
-sheet_found Validity.WrongLayout ps qs h = (cc, cc)
+sheet_found : (r : Result ⊤ Flaw) (ps qs : List Parameter) → sheet_step r ps ≡ found qs → (r ≡ (Ok tt)) × (ps ≡ qs)
+sheet_found (Ok tt) ps qs h = (refl, cc)
+sheet_found (Err Flaw.Size) ps qs h = (cc, cc)
+sheet_found (Err Flaw.Sum) ps qs h = (cc, cc)
+sheet_found (Err Flaw.Layout) ps qs h = (cc, cc)
 
 tree_found : (text : List ℕ) (o : Option Tree) (f : Tree) → tree_step text o ≡ found f → o ≡ some f
 tree_found text (some g) f h = cc
@@ -72,7 +72,7 @@ passing b xs c n e h =
     let (p, is) = inputs_found (accept_inputs b xs) n (sym e ∙ ap counted_answer h) in
     passing_inputs b xs p is
 
-pub passing_sheet : (b xs : List ℕ) (c : Result ℕ Refusal) (n : ℕ) → counted_answer c ≡ check_answer b xs → c ≡ Ok n → read_sheet b ≡ Validity.WellFormed
+pub passing_sheet : (b xs : List ℕ) (c : Result ℕ Refusal) (n : ℕ) → counted_answer c ≡ check_answer b xs → c ≡ Ok n → read_sheet b ≡ (Ok tt)
 passing_sheet b xs c n e h = (passing b xs c n e h).sheet_well_formed
 
 pub passing_short : (b xs : List ℕ) (c : Result ℕ Refusal) (n : ℕ) → counted_answer c ≡ check_answer b xs → c ≡ Ok n → length xs ≤ 1024
@@ -85,15 +85,15 @@ passing_asks b xs p = rw (p.inputs_accepted, p.reads)
 
 -- ---- a card
 
-pub card-found : (r : Validity) (fits : Bool) (c : Card) (i : ℕ) (d : Card) → card_step r fits c i ≡ found d → (r ≡ Validity.WellFormed) × (d ≡ c)
-card-found Validity.WellFormed true c i d h = (refl, cc)
-card-found Validity.WellFormed false c i d h = (cc, cc)
-card-found Validity.WrongSize fits c i d h = (cc, cc)
-card-found Validity.WrongSum fits c i d h = (cc, cc)
-card-found Validity.WrongLayout fits c i d h = (cc, cc)
+pub card-found : (r : Result ⊤ Flaw) (fits : Bool) (c : Card) (i : ℕ) (d : Card) → card_step r fits c i ≡ found d → (r ≡ (Ok tt)) × (d ≡ c)
+card-found (Ok tt) true c i d h = (refl, cc)
+card-found (Ok tt) false c i d h = (cc, cc)
+card-found (Err Flaw.Size) fits c i d h = (cc, cc)
+card-found (Err Flaw.Sum) fits c i d h = (cc, cc)
+card-found (Err Flaw.Layout) fits c i d h = (cc, cc)
 
 -- a card that is accepted is well formed, and has its record number
-pub card_accepted : (ps : List Parameter) (i : ℕ) (b : List ℕ) (d : Card) → accept_card ps i b ≡ found d → (read_card b ≡ Validity.WellFormed) × (d.number ≡ record_number b)
+pub card_accepted : (ps : List Parameter) (i : ℕ) (b : List ℕ) (d : Card) → accept_card ps i b ≡ found d → (read_card b ≡ (Ok tt)) × (d.number ≡ record_number b)
 unfolding accept_card
 card_accepted ps i b d h =
     let (well, same) = card-found (read_card b) (conforms ps (entries_of b)) (record { number = record_number b; entries = entries_of b }) i d h in

@@ -5,6 +5,7 @@
 -- card refused is the first that match refuses. The question is refused with no number from 21 to 30 (`OtherNumber`), so 21 to 23 tell of a
 -- card and 30 of the room.
 -- Assumes nothing.
+use Rattle.std.specs.Prelude.{Err, Ok, Result, ⊤}
 use Prim.Native.Nat.{ℕ, suc, ◌≤◌, ◌<◌}
 use native.Mathlib.Decide.{ℕ_discrete}
 use native.Mathlib.Omega.{arith}
@@ -19,7 +20,6 @@ use Rattle.base.specs.Lists.{All, all_empty, all_cons}
 use Rattle.base.proofs.All.{all_map}
 use Rattle.base.proofs.Lists.{filter_map}
 use Rattle.base.proofs.Tests.{cond-elim}
-use Rattle.block.specs.declared.Validity.{Validity}
 use Rattle.sheet.specs.Sheet.{Parameter}
 use Rattle.card.specs.Card.{record_number, entries_of, read_card}
 use Rattle.judge.specs.Sets.{conforms}
@@ -31,16 +31,17 @@ use Rattle.refusal.proofs.Answers.{verdict_not_refused}
 use Rattle.answer.proofs.Outcomes.{card_of, Accepted, Stopped, CardsOutcome, all_accepted, one_stopped, OtherNumber, SelectionOutcome, not_asked, card_refused, no_room, numbers_found}
 use Rattle.answer.proofs.Inputs.{match_by_lem, question_number}
 use Rattle.answer.proofs.Runs.{run_iff}
+use Rattle.block.specs.declared.Flaw.{Flaw}
 
 -- ---- a card, at whatever index
 
 module _ (ps : List Parameter) where
-  card_steps : (r : Validity) (fits : Bool) (c : Card) → ((i : ℕ) → card_step r fits c i ≡ found c) ⊎ ((n : ℕ) × (n ≤ 23) × ((i : ℕ) → card_step r fits c i ≡ stop n i))
-  card_steps Validity.WrongSize fits c = inr (20, omega arith, λ i. refl)
-  card_steps Validity.WrongSum fits c = inr (21, omega arith, λ i. refl)
-  card_steps Validity.WrongLayout fits c = inr (22, omega arith, λ i. refl)
-  card_steps Validity.WellFormed true c = inl (λ i. refl)
-  card_steps Validity.WellFormed false c = inr (23, omega arith, λ i. refl)
+  card_steps : (r : Result ⊤ Flaw) (fits : Bool) (c : Card) → ((i : ℕ) → card_step r fits c i ≡ found c) ⊎ ((n : ℕ) × (n ≤ 23) × ((i : ℕ) → card_step r fits c i ≡ stop n i))
+  card_steps (Err Flaw.Size) fits c = inr (20, omega arith, λ i. refl)
+  card_steps (Err Flaw.Sum) fits c = inr (21, omega arith, λ i. refl)
+  card_steps (Err Flaw.Layout) fits c = inr (22, omega arith, λ i. refl)
+  card_steps (Ok tt) true c = inl (λ i. refl)
+  card_steps (Ok tt) false c = inr (23, omega arith, λ i. refl)
 
   -- a card is accepted, or refused with one number
   accepted_or_stopped : (b : List ℕ) → Accepted ps b ⊎ ((n : ℕ) × (n ≤ 23) × Stopped ps n b)

@@ -2,7 +2,6 @@
 -- Assumes nothing.
 use Rattle.std.specs.Prelude.{ℕ, zero, suc, ◌/◌, ◌%◌, Bool, true, false, cond, ◌&&◌, ◌||◌, List, [], ◌∷◌, ◌++◌, leb, eqb, ltb, length, take, drop, Err, Ok, Result, ⊤}
 use Rattle.std.proofs.Math.Option.{Option, none, some}
-use Rattle.block.specs.declared.Validity.{Validity}
 use Rattle.sheet.specs.Sheet.{Parameter, parameters_of, read_sheet}
 use Rattle.card.specs.Card.{Entry, record_number, entries_of, read_card}
 use Rattle.syntax.specs.Tree.{Test, Tree, tests_of}
@@ -15,14 +14,15 @@ use Rattle.judge.specs.Verdicts.{filter_says}
 use Rattle.refusal.specs.Answers.{Answer, yes_or_no, count}
 use Rattle.refusal.specs.Steps.{Step, found, stop, refusal_step, ◌>>=◌, answer}
 use Rattle.refusal.specs.declared.Refusal.{Refusal}
+use Rattle.block.specs.declared.Flaw.{Flaw}
 
 -- ---- the sheet: 1, 2, 3
 
-abbrev pub sheet_step : Validity → List Parameter → Step (List Parameter)
-sheet_step Validity.WellFormed ps = found ps
-sheet_step Validity.WrongSize ps = stop 1 0
-sheet_step Validity.WrongSum ps = stop 2 0
-sheet_step Validity.WrongLayout ps = stop 3 0
+abbrev pub sheet_step : Result ⊤ Flaw → List Parameter → Step (List Parameter)
+sheet_step (Ok tt) ps = found ps
+sheet_step (Err Flaw.Size) ps = stop 1 0
+sheet_step (Err Flaw.Sum) ps = stop 2 0
+sheet_step (Err Flaw.Layout) ps = stop 3 0
 
 unfoldable pub accept_sheet : List ℕ → Step (List Parameter)
 accept_sheet sheet = sheet_step (read_sheet sheet) (parameters_of sheet)
@@ -62,12 +62,12 @@ pub record Card : Type 0 where
   pub number : ℕ
   pub entries : List Entry
 
-abbrev pub card_step : Validity → Bool → Card → ℕ → Step Card
-card_step Validity.WrongSize fits c i = stop 20 i
-card_step Validity.WrongSum fits c i = stop 21 i
-card_step Validity.WrongLayout fits c i = stop 22 i
-card_step Validity.WellFormed true c i = found c
-card_step Validity.WellFormed false c i = stop 23 i
+abbrev pub card_step : Result ⊤ Flaw → Bool → Card → ℕ → Step Card
+card_step (Err Flaw.Size) fits c i = stop 20 i
+card_step (Err Flaw.Sum) fits c i = stop 21 i
+card_step (Err Flaw.Layout) fits c i = stop 22 i
+card_step (Ok tt) true c i = found c
+card_step (Ok tt) false c i = stop 23 i
 
 -- the card with the index i in its run
 unfoldable pub accept_card : List Parameter → ℕ → List ℕ → Step Card

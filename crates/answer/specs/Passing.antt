@@ -1,8 +1,7 @@
 -- What the parts of the operations answer: a filter's text read, a sheet and a filter that check has passed, one card under them.
 -- Assumes nothing.
-use Rattle.std.specs.Prelude.{ℕ, ◌≤◌, ◌≡◌, Bool, false, List, length}
+use Rattle.std.specs.Prelude.{ℕ, ◌≤◌, ◌≡◌, Bool, false, List, length, Ok}
 use Rattle.std.proofs.Math.Option.{Option, none, some}
-use Rattle.block.specs.declared.Validity.{Validity}
 use Rattle.sheet.specs.Sheet.{Parameter, parameters_of, read_sheet}
 use Rattle.card.specs.Card.{Entry}
 use Rattle.syntax.specs.Tree.{Tree, tests_of}
@@ -20,7 +19,7 @@ summary_answer s = answer (decision_step s.first >>= λ u. found (count s.tests)
 -- check has passed the sheet and the text, which spells the tree
 pub record Passing (sheet text : List ℕ) : Type 0 where
   pub tree : Tree
-  pub sheet_well_formed : read_sheet sheet ≡ Validity.WellFormed
+  pub sheet_well_formed : read_sheet sheet ≡ (Ok tt)
   pub short : length text ≤ 1024
   pub reads : read text ≡ some tree
   pub meant : tests_step (parameters_of sheet) (tests_of tree) ≡ found tt

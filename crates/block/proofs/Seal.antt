@@ -1,5 +1,6 @@
 -- Laws of size and check sum: what the code's tests decide, and that a block which is sealed is the seal of its body.
 -- Assumes nothing.
+use Rattle.std.specs.Prelude.{Err, Ok, Result, ⊤}
 use Prim.Native.Nat.{ℕ, ◌-◌, ◌^◌, ◌≤◌, ◌<◌}
 use native.Mathlib.Omega.{arith}
 use mathlib.Core.Path.{◌≡◌, refl, ap, ap₂, sym, ◌∙◌}
@@ -17,45 +18,44 @@ use Rattle.base.specs.Parts.{padded}
 use Rattle.block.specs.Words.{word, word_bytes}
 use Rattle.block.specs.Sum.{sum_from, check_sum}
 use Rattle.block.specs.Seal.{check, IsSealed, seal}
-use Rattle.block.specs.declared.Integrity.{Integrity}
-use Rattle.block.specs.declared.Integrity.TheVariants.{Sealed, WrongSize, WrongSum}
 use Rattle.block.proofs.Words.{word-bytes, word-length, word-written, word_read}
 use Rattle.block.proofs.Sum.{sum_largest}
+use Rattle.block.specs.declared.Flaw.{Flaw}
 
 -- ---- what the tests decide
 
-pub check-size_wrong : (b : List ℕ) → (length b ≡ 512 → ⊥) → WrongSize ≡ check b
+pub check-size_wrong : (b : List ℕ) → (length b ≡ 512 → ⊥) → (Err Flaw.Size) ≡ check b
 unfolding check
 check-size_wrong b n = rw (ne_eqb (length b) 512 n)
 
 module _ (b : List ℕ) (h : length b ≡ 512) (s w : ℕ) (es : s ≡ check_sum b) (ew : w ≡ word b 508) where
-  pub check_sum_wrong : (s ≡ w → ⊥) → WrongSum ≡ check b
+  pub check_sum_wrong : (s ≡ w → ⊥) → (Err Flaw.Sum) ≡ check b
   unfolding check
   check_sum_wrong n = rw (eq-eqb (length b) 512 h, ne_eqb (check_sum b) (word b 508) (λ e. n (es ∙ e ∙ sym ew)))
 
-  pub check_right : s ≡ w → Sealed ≡ check b
+  pub check_right : s ≡ w → (Ok tt) ≡ check b
   unfolding check
   check_right e = rw (eq-eqb (length b) 512 h, eq-eqb (check_sum b) (word b 508) (sym es ∙ e ∙ ew))
 
-sum_not_sealed : WrongSum ≡ Sealed → ⊥
+sum_not_sealed : (Err Flaw.Sum) ≡ (Ok tt) → ⊥
 sum_not_sealed e = let z : ◌≡◌ {A = ℕ} 0 1 = cc in omega arith
 
-size_not_sealed : WrongSize ≡ Sealed → ⊥
+size_not_sealed : (Err Flaw.Size) ≡ (Ok tt) → ⊥
 size_not_sealed e = let z : ◌≡◌ {A = ℕ} 0 1 = cc in omega arith
 
-check_sealed : (b : List ℕ) → check b ≡ Sealed → IsSealed b
+check_sealed : (b : List ℕ) → check b ≡ (Ok tt) → IsSealed b
 unfolding check
 check_sealed b h =
-    let p = cond-first (eqb (length b) 512) (cond (eqb (check_sum b) (word b 508)) Sealed WrongSum) WrongSize size_not_sealed h in
-    let q = cond-first (eqb (check_sum b) (word b 508)) Sealed WrongSum sum_not_sealed p.1 in
+    let p = cond-first (eqb (length b) 512) (cond (eqb (check_sum b) (word b 508)) (Ok tt) (Err Flaw.Sum)) (Err Flaw.Size) size_not_sealed h in
+    let q = cond-first (eqb (check_sum b) (word b 508)) (Ok tt) (Err Flaw.Sum) sum_not_sealed p.1 in
     record { size = eqb-true (length b) 512 p.0; sum = eqb-true (check_sum b) (word b 508) q.0 }
 
 -- the test says so exactly where the size and the sum are right
-pub check_iff : (b : List ℕ) → (check b ≡ Sealed) ↔ IsSealed b
+pub check_iff : (b : List ℕ) → (check b ≡ (Ok tt)) ↔ IsSealed b
 check_iff b = (check_sealed b, (λ s. sym (check_right b s.size (check_sum b) (word b 508) refl refl s.sum)))
 
 -- the size of a block that was checked
-pub check-length : (b : List ℕ) (r : Integrity) → r ≡ check b → r ≡ Sealed → length b ≡ 512
+pub check-length : (b : List ℕ) (r : Result ⊤ Flaw) → r ≡ check b → r ≡ (Ok tt) → length b ≡ 512
 check-length b r e k = (check_sealed b (sym e ∙ k)).size
 
 -- ---- the seal of a body

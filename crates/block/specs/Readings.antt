@@ -1,13 +1,10 @@
 -- What reading a block answers.
 -- Assumes nothing.
-use Rattle.std.specs.Prelude.{Bool, cond}
-use Rattle.block.specs.declared.Integrity.{Integrity}
-use Rattle.block.specs.declared.Integrity.TheVariants.{Sealed, WrongSize, WrongSum}
-use Rattle.block.specs.declared.Validity.{Validity}
-use Rattle.block.specs.declared.Validity.TheVariants as answers
+use Rattle.std.specs.Prelude.{Bool, cond, Err, Ok, Result, ⊤}
+use Rattle.block.specs.declared.Flaw.{Flaw}
 
 -- size, then check sum, then layout
-unfoldable pub reading : Integrity → Bool → Validity
-reading WrongSize layout = answers.WrongSize
-reading WrongSum layout = answers.WrongSum
-reading Sealed layout = cond layout answers.WellFormed answers.WrongLayout
+unfoldable pub reading : Result ⊤ Flaw → Bool → Result ⊤ Flaw
+reading (Err Flaw.Size) layout = (Err Flaw.Size)
+reading (Err Flaw.Sum) layout = (Err Flaw.Sum)
+reading (Ok tt) layout = cond layout (Ok tt) (Err Flaw.Layout)

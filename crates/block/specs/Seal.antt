@@ -1,19 +1,18 @@
 -- Size and check sum of a block: as a test, and as what makes a block of its body.
 -- Assumes nothing.
-use Rattle.std.specs.Prelude.{ℕ, ◌≡◌, cond, List, ◌++◌, eqb, length}
+use Rattle.std.specs.Prelude.{ℕ, ◌≡◌, cond, List, ◌++◌, eqb, length, Err, Ok, Result, ⊤}
 use Rattle.base.specs.Parts.{padded}
 use Rattle.block.specs.Words.{word, word_bytes}
 use Rattle.block.specs.Sum.{check_sum, sum_from}
-use Rattle.block.specs.declared.Integrity.{Integrity}
-use Rattle.block.specs.declared.Integrity.TheVariants.{Sealed, WrongSize, WrongSum}
+use Rattle.block.specs.declared.Flaw.{Flaw}
 
 -- the bytes are as many as a block's
 abbrev pub HasSize : List ℕ → Type 0
 HasSize b = length b ≡ 512
 
 -- "both are 512 bytes, each with its own check: bytes 508 to 511, low byte first, hold the sum"
-unfoldable pub check : List ℕ → Integrity
-check b = cond (eqb (length b) 512) (cond (eqb (check_sum b) (word b 508)) Sealed WrongSum) WrongSize
+unfoldable pub check : List ℕ → Result ⊤ Flaw
+check b = cond (eqb (length b) 512) (cond (eqb (check_sum b) (word b 508)) (Ok tt) (Err Flaw.Sum)) (Err Flaw.Size)
 
 -- the same, part by part
 pub record IsSealed (b : List ℕ) : Type 0 where

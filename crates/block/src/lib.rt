@@ -14,27 +14,6 @@ pub use columns::check_sum;
 use columns::check_sum_to;
 pub use walker::{Item, Walker};
 
-// What the size and the check sum of a block are: both right, or which is wrong.
-#[derive(Clone, Copy)]
-pub enum Integrity {
-    Sealed,
-    WrongSize,
-    WrongSum,
-}
-
-// What reading a sheet or a card answers.
-#[derive(Clone, Copy)]
-pub enum Validity {
-    // 01: sound.
-    WellFormed,
-    // Not 512 bytes: refusal 1 of a sheet, 20 of a card.
-    WrongSize,
-    // The check sum is wrong: refusal 2 of a sheet, 21 of a card.
-    WrongSum,
-    // The layout is wrong, or a sheet's names are: refusal 3 of a sheet, 22 of a card.
-    WrongLayout,
-}
-
 // Where an item stands: its first byte, its mark (0 in a block without marks), and where its text starts and ends. The next item starts
 // where the text ends.
 #[derive(Clone, Copy)]
@@ -43,6 +22,17 @@ pub struct Place {
     pub mark: u8,
     pub start: usize,
     pub end: usize,
+}
+
+// What is wrong with bytes that are no sheet or no card (01: sound, where nothing is).
+#[derive(Clone, Copy)]
+pub enum Flaw {
+    // Not 512 bytes: refusal 1 of a sheet, 20 of a card.
+    Size,
+    // The check sum is wrong: refusal 2 of a sheet, 21 of a card.
+    Sum,
+    // The layout is wrong, or a sheet's names are: refusal 3 of a sheet, 22 of a card.
+    Layout,
 }
 
 // The number that the four bytes from `at` hold, low byte first.
@@ -54,16 +44,16 @@ pub fn word(block: &[u8], at: usize) -> u32
 }
 
 // Whether a block has its size, and its bytes 508 to 511 its check sum.
-pub fn check(block: &[u8]) -> Integrity
+pub fn check(block: &[u8]) -> Result<(), Flaw>
     ensures { result ≡ check block.now }
 {
     if block.len() != 512 {
-        return Integrity::WrongSize;
+        return Err(Flaw::Size);
     }
     if check_sum(block) != word(block, 508) {
-        return Integrity::WrongSum;
+        return Err(Flaw::Sum);
     }
-    Integrity::Sealed
+    Ok(())
 }
 
 // Whether every byte is zero. The loop goes on to the end, so that it takes many bytes a turn.
@@ -158,25 +148,25 @@ pub fn has_either(block: &[u8], plain: u8, marked: u8, at: usize, most: u8) -> b
 }
 
 // What a block is: size, then check sum, then layout. The layout is looked at first, since the sum needs to go no further than the items.
-pub fn read_block(block: &[u8], plain: u8, marked: u8, at: usize, most: u8) -> Validity
+pub fn read_block(block: &[u8], plain: u8, marked: u8, at: usize, most: u8) -> Result<(), Flaw>
     requires { at < 508 }
     ensures { result ≡ reading (check block.now) (has_either plain marked at most block.now) }
 {
     if block.len() != 512 {
-        return Validity::WrongSize;
+        return Err(Flaw::Size);
     }
     match layout_of(block, plain, marked, at, most) {
         Some(end) => {
             if check_sum_to(block, end) != word(block, 508) {
-                return Validity::WrongSum;
+                return Err(Flaw::Sum);
             }
-            Validity::WellFormed
+            Ok(())
         }
         None => {
             if check_sum(block) != word(block, 508) {
-                return Validity::WrongSum;
+                return Err(Flaw::Sum);
             }
-            Validity::WrongLayout
+            Err(Flaw::Layout)
         }
     }
 }

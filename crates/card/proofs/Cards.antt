@@ -1,5 +1,6 @@
 -- What a card is: the two ways to say it are one, and the cards that other layers need are there.
 -- Assumes nothing.
+use Rattle.std.specs.Prelude.{Ok}
 use Prim.Native.Nat.{ℕ, ◌^◌, ◌≤◌, ◌<◌}
 use native.Mathlib.Omega.{arith}
 use mathlib.Core.Path.{◌≡◌, refl, sym, subst}
@@ -11,7 +12,6 @@ use Rattle.base.specs.Bytes.{Bytes}
 use Rattle.base.specs.Lists.{all_empty, all_cons}
 use Rattle.block.specs.Words.{word_bytes}
 use Rattle.block.specs.Items.{join}
-use Rattle.block.specs.declared.Validity.TheVariants.{WellFormed}
 use Rattle.card.specs.Card.{Entry, entry, record_number, entries_of, read_card}
 use Rattle.card.specs.Encode.{entry_bytes, card_body, encode_card, WellFormedEntry, WellFormedCard, CardBlock, ReadsAsCard}
 use Rattle.card.proofs.Read.{card_form}
@@ -31,16 +31,16 @@ card_reads_iff b w n es = (there, back)
     back h = subst (λ (l : List ℕ). ReadsAsCard l w n es) (sym h.1) (encoded_card_reads w n es h.0)
 
 -- bytes that read as well formed are a card of the form that their first byte tells
-pub card_of_lem : (b : List ℕ) → Bytes b → read_card b ≡ WellFormed → CardBlock b
+pub card_of_lem : (b : List ℕ) → Bytes b → read_card b ≡ (Ok tt) → CardBlock b
 card_of_lem b h r =
     let f = card_form b r in
     record { marked = f.0; number = record_number b; entries = entries_of b; well_formed = card_well_formed b h r f.0 f.1; encoded = card_encoded b h r f.0 f.1 }
 
 -- bytes read as well formed exactly where they are some card's
-pub card_iff : (b : List ℕ) → (Bytes b × (read_card b ≡ WellFormed)) ↔ CardBlock b
+pub card_iff : (b : List ℕ) → (Bytes b × (read_card b ≡ (Ok tt))) ↔ CardBlock b
 card_iff b = ((λ h. card_of_lem b h.0 h.1), back)
   where
-    back : CardBlock b → Bytes b × (read_card b ≡ WellFormed)
+    back : CardBlock b → Bytes b × (read_card b ≡ (Ok tt))
     back c =
         let r = (card_reads_iff b c.marked c.number c.entries).1 (c.well_formed, c.encoded) in
         (r.bytes, r.reading)

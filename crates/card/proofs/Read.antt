@@ -1,5 +1,6 @@
 -- What holds of bytes that read as a well-formed card.
 -- Assumes nothing.
+use Rattle.std.specs.Prelude.{Ok}
 use Prim.Native.Nat.{ℕ}
 use mathlib.Core.Path.{◌≡◌, refl}
 use mathlib.Core.Bool.{Bool, true}
@@ -7,14 +8,13 @@ use mathlib.Core.List.{List}
 use lib.ListN.{length, get_or}
 use Rattle.base.specs.Bytes.{Bytes}
 use Rattle.block.specs.Items.{has_layout, has_either}
-use Rattle.block.specs.declared.Validity.TheVariants.{WellFormed}
 use Rattle.block.proofs.Contents.{Held}
 use Rattle.block.proofs.Items.{either_own, either_form}
 use Rattle.block.proofs.Readings.{reading_iff}
 use Rattle.card.specs.Encode.{card_first}
 use Rattle.card.specs.Card.{entry, entry_count, entries_of, read_card}
 
-module _ (b : List ℕ) (h : read_card b ≡ WellFormed) where
+module _ (b : List ℕ) (h : read_card b ≡ (Ok tt)) where
   pub card-length : length b ≡ 512
   unfolding read_card
   card-length = ((reading_iff b (has_either 0x43 0x44 5 64 b)).0 h).0.size

@@ -1,5 +1,6 @@
 -- A card is written and read back, and read and written back.
 -- Assumes nothing.
+use Rattle.std.specs.Prelude.{Ok}
 use Prim.Native.Nat.{ℕ, ◌≤◌}
 use native.Mathlib.Omega.{arith}
 use mathlib.Core.Path.{◌≡◌, refl, ap, sym, ◌∙◌, subst}
@@ -13,7 +14,6 @@ use Rattle.base.proofs.All.{all_map, all_every, all_both}
 use Rattle.block.specs.Words.{word_bytes}
 use Rattle.block.specs.Seal.{seal}
 use Rattle.block.specs.Items.{has_marks, has_either, marks, join}
-use Rattle.block.specs.declared.Validity.TheVariants.{WellFormed}
 use Rattle.block.proofs.Contents.{Held, Written}
 use Rattle.block.proofs.Words.{word-bytes, word-written, word_read, word_small}
 use Rattle.block.proofs.Seal.{after, seal-body}
@@ -91,7 +91,7 @@ module _ (w : Bool) (n : ℕ) (es : List Entry) (h : WellFormedCard w n es) wher
 
 -- ---- read and written back
 
-module _ (b : List ℕ) (h : Bytes b) (r : read_card b ≡ WellFormed) (w : Bool) (f : get_or b 0 0 ≡ card_first w) where
+module _ (b : List ℕ) (h : Bytes b) (r : read_card b ≡ (Ok tt)) (w : Bool) (f : get_or b 0 0 ≡ card_first w) where
   read_held : Held entry (card_first w) 5 64 b (entries_of b)
   read_held = subst (λ (x : ℕ). Held entry x 5 64 b (entries_of b)) f (card_held b r h)
 

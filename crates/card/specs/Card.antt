@@ -1,11 +1,11 @@
 -- Cards, as they are read: 01's rules, in its order.
 -- Assumes nothing.
-use Rattle.std.specs.Prelude.{ℕ, List, get_or}
+use Rattle.std.specs.Prelude.{ℕ, List, get_or, Result, ⊤}
 use Rattle.block.specs.Words.{word}
 use Rattle.block.specs.Seal.{check}
 use Rattle.block.specs.Items.{has_either, items}
 use Rattle.block.specs.Readings.{reading}
-use Rattle.block.specs.declared.Validity.{Validity}
+use Rattle.block.specs.declared.Flaw.{Flaw}
 
 -- an entry: the index of its parameter on the sheet (01: place), the number of its occurrence, and the text
 pub record Entry : Type 0 where
@@ -31,5 +31,5 @@ unfoldable pub entries_of : List ℕ → List Entry
 entries_of b = items entry (entry_count b) b 6
 
 -- what the bytes are, as a card: "byte 0 is 0x43" or 0x44, and byte 5 says that 0 to 64 entries follow it
-unfoldable pub read_card : List ℕ → Validity
+unfoldable pub read_card : List ℕ → Result ⊤ Flaw
 read_card b = reading (check b) (has_either 0x43 0x44 5 64 b)

@@ -1,12 +1,11 @@
 -- Cards, as they are written: which there are, and their bytes.
 -- Assumes nothing.
-use Rattle.std.specs.Prelude.{ℕ, ◌^◌, ◌≤◌, ◌<◌, ◌≡◌, Bool, false, cond, List, ◌∷◌, ◌++◌, length, get_or}
+use Rattle.std.specs.Prelude.{ℕ, ◌^◌, ◌≤◌, ◌<◌, ◌≡◌, Bool, false, cond, List, ◌∷◌, ◌++◌, length, get_or, Ok}
 use Rattle.base.specs.Bytes.{Byte, Bytes}
 use Rattle.base.specs.Lists.{All}
 use Rattle.block.specs.Words.{word_bytes}
 use Rattle.block.specs.Seal.{seal}
 use Rattle.block.specs.Items.{marks, join}
-use Rattle.block.specs.declared.Validity.TheVariants.{WellFormed}
 use Rattle.card.specs.Card.{Entry, record_number, entries_of, read_card}
 
 -- the first byte of a card without occurrences, and of one with them (02)
@@ -52,6 +51,6 @@ pub record CardBlock (b : List ℕ) : Type 0 where
 pub record ReadsAsCard (b : List ℕ) (marked : Bool) (n : ℕ) (es : List Entry) : Type 0 where
   pub first : get_or b 0 0 ≡ card_first marked
   pub bytes : Bytes b
-  pub reading : read_card b ≡ WellFormed
+  pub reading : read_card b ≡ (Ok tt)
   pub number : record_number b ≡ n
   pub entries : entries_of b ≡ es

@@ -3,6 +3,7 @@
 -- (`before_last`), so a walk goes from each entry of the chain to the one behind it. Asked of all entries it is what a test asks
 -- (`before_all`).
 -- Assumes nothing.
+use Rattle.std.specs.Prelude.{Ok}
 use Prim.Native.Nat.{ℕ, zero, suc, ◌+◌, ◌-◌, ◌≤◌, ◌<◌}
 use native.Mathlib.Nat.{eq-or-lt_of_le}
 use native.Mathlib.Numerals.{add-one}
@@ -16,7 +17,6 @@ use lib.IntN.{ℤ}
 use lib.ListN.{length, get_or}
 use borrow.Author.Tests.{eq-eqb, ne_eqb, lt-ltb}
 use Rattle.base.specs.Parts.{part}
-use Rattle.block.specs.declared.Validity.TheVariants.{WellFormed}
 use Rattle.block.proofs.Items.{items-length}
 use Rattle.card.specs.Card.{Entry, entry, entries_of, entry_count, read_card}
 use Rattle.kind.specs.declared.Meaning.{Meaning}
@@ -94,7 +94,7 @@ entries_length card = items-length entry (entry_count card) card 6
 -- ---- where a chain begins, and where it goes on
 
 module _ (card cells : List ℕ) (spans : List ℤ) (h : KeepsCard card cells spans) (i : ℕ) where
-  pub chain_begins : (n : ℕ) → read_card card ≡ WellFormed → i < 32 → IsKept cells i → n ≡ get_or cells i 0 → OnChain card cells i n
+  pub chain_begins : (n : ℕ) → read_card card ≡ (Ok tt) → i < 32 → IsKept cells i → n ≡ get_or cells i 0 → OnChain card cells i n
   chain_begins n w l k e =
       let top : Last (entries_of card) i (entry_count card) n = subst (Last (entries_of card) i (entry_count card)) (sym e) (h.holds.heads i l k) in
       record { low = l; kept = k; few = card_few card w; within = top.within; under = top.under }

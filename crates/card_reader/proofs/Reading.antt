@@ -4,7 +4,7 @@
 -- begins at the last entry under its parameter; what stood there before stands behind it now (`Last`). Of a parameter whose entries are not
 -- kept nothing changes but the number of entries (`holds_more`).
 -- Assumes nothing.
-use Rattle.std.specs.Prelude.{Option, Some, None, is_some}
+use Rattle.std.specs.Prelude.{Option, Some, None, is_some, Ok}
 use Prim.Native.Nat.{ℕ, ◌+◌, ◌*◌, ◌≤◌, ◌<◌}
 use native.Mathlib.Nat.{add-zero}
 use native.Mathlib.Omega.{arith}
@@ -19,7 +19,6 @@ use lib.Seq.{get_or-drop, drop-drop}
 use borrow.Author.Tests.{eqb-true, eqb-false}
 use Rattle.base.specs.Parts.{part}
 use Rattle.base.proofs.Tests.{both_ways}
-use Rattle.block.specs.declared.Validity.TheVariants.{WellFormed}
 use Rattle.block.specs.Walking.{Steps, made, coming}
 use Rattle.block.specs.declared.walker.Walker.{Walker}
 use Rattle.block.proofs.Items.{layout_count, items-length}
@@ -243,7 +242,7 @@ pub record Progress (kinds card before cells : List ℕ) (spans : List ℤ) (s :
   pub kept : (i : ℕ) → i < 32 → get_or before (544 + i) 0 ≡ 0 → IsKept cells i
   pub holds : HoldsTo card (entries_of card) cells spans e
 
-pub card_few : (card : List ℕ) → read_card card ≡ WellFormed → entry_count card ≤ 64
+pub card_few : (card : List ℕ) → read_card card ≡ (Ok tt) → entry_count card ≤ 64
 unfolding entry_count
 card_few card h = layout_count card (get_or card 0 0) 5 64 (card_layout card h)
 
@@ -251,7 +250,7 @@ entries_counted : (card : List ℕ) → length (entries_of card) ≡ entry_count
 unfolding entries_of
 entries_counted card = items-length entry (entry_count card) card 6
 
-pub progress_start : (kinds card begun cells : List ℕ) (spans : List ℤ) (s : Walker) → read_card card ≡ WellFormed → s.block.now ≡ card → coming entry s ≡ entries_of card → Lent begun spans → Begun begun cells 32 → Progress kinds card cells cells spans s 0
+pub progress_start : (kinds card begun cells : List ℕ) (spans : List ℤ) (s : Walker) → read_card card ≡ (Ok tt) → s.block.now ≡ card → coming entry s ≡ entries_of card → Lent begun spans → Begun begun cells 32 → Progress kinds card cells cells spans s 0
 progress_start kinds card begun cells spans s h same all w b =
     record {
       block = same;

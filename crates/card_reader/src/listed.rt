@@ -1,5 +1,5 @@
 // A test judged by the lists of a card: only the entries under its parameter are visited.
-ghost use Rattle.std.specs.Prelude.{◌≡◌, ◌+◌, ◌<◌, ◌≤◌, length, get_or};
+ghost use Rattle.std.specs.Prelude.{◌≡◌, ◌+◌, ◌<◌, ◌≤◌, length, get_or, Ok};
 ghost use Rattle.card.specs.Card.{entries_of, read_card};
 ghost use Rattle.judge.specs.Once.{readings_for};
 ghost use Rattle.judge.specs.Sets.{values_at, chosen_of, counts};
@@ -12,7 +12,6 @@ use crate::packing::unpacked;
 use crate::related::reading_counts;
 use crate::store::wide;
 use crate::{Packed, Question, TextReading};
-use block::Validity;
 use judge::Chosen;
 
 // Whether entries of an occurrence count.
@@ -137,7 +136,7 @@ pub fn some_kept(
     question: Question,
     value: &[u8],
 ) -> bool
-    requires card_value { read_card card.now ≡ Validity.WellFormed }
+    requires card_value { read_card card.now ≡ (Ok tt) }
     requires keeps_card { KeepsCard card.now cells.now spans.now }
     requires index_bound { question.index < 32 }
     requires kept { IsKept cells.now question.index }

@@ -1,6 +1,6 @@
 -- Check, as the code comes to its answer.
 -- Assumes nothing.
-use Rattle.std.specs.Prelude.{Err, Ok, Result, Option, Some, None}
+use Rattle.std.specs.Prelude.{Err, Ok, Result, Option, Some, None, ⊤}
 use Prim.Native.Nat.{ℕ, ◌≤◌, ◌<◌}
 use native.Mathlib.Omega.{arith}
 use mathlib.Core.Path.{◌≡◌, refl, sym, ap, ◌∙◌}
@@ -9,7 +9,6 @@ use mathlib.Core.List.{List}
 use lib.ListN.{length}
 use borrow.Author.Tests.{eq-eqb, ne_eqb, lt-ltb}
 use Rattle.base.specs.Runs.{RunEnd}
-use Rattle.block.specs.declared.Validity.{Validity}
 use Rattle.sheet.specs.Sheet.{Parameter, parameters_of, read_sheet}
 use Rattle.syntax.specs.Tree.{Tree, tests_of}
 use Rattle.syntax.specs.Scan.{is_space}
@@ -31,6 +30,7 @@ use Rattle.refusal.specs.Steps.{Step, found, stop, ◌>>=◌, answer}
 use Rattle.answer.specs.Operations.{accept_filter, decision_step, tests_step, sheet_step, accept_sheet, filter_answer, Inputs, accept_inputs, check_answer}
 use Rattle.answer.specs.Passing.{summary_answer}
 use Rattle.answer.proofs.Inputs.{text_read}
+use Rattle.block.specs.declared.Flaw.{Flaw}
 
 -- ---- the answer for a text that is a filter
 
@@ -113,11 +113,11 @@ count_filter : (ps : List Parameter) (t : Step Tree) → (t >>= λ f. tests_step
 count_filter ps (found f) = count_tests ps f (tests_step ps (tests_of f))
 count_filter ps (stop n p) = refl
 
-module _ (b xs : List ℕ) (r : Validity) (e : r ≡ read_sheet b) (c : Result ℕ Refusal) where
-  pub check_sheet : (k : Validity) (n : ℕ) → ((ps : List Parameter) → sheet_step k ps ≡ stop n 0) → r ≡ k → counted_answer c ≡ refused n 0 → counted_answer c ≡ check_answer b xs
+module _ (b xs : List ℕ) (r : Result ⊤ Flaw) (e : r ≡ read_sheet b) (c : Result ℕ Refusal) where
+  pub check_sheet : (k : Result ⊤ Flaw) (n : ℕ) → ((ps : List Parameter) → sheet_step k ps ≡ stop n 0) → r ≡ k → counted_answer c ≡ refused n 0 → counted_answer c ≡ check_answer b xs
   unfolding check_answer accept_inputs accept_sheet
   check_sheet k n t i h = h ∙ rw (sym e ∙ i, t (parameters_of b))
 
-  pub check_filter : r ≡ Validity.WellFormed → counted_answer c ≡ filter_answer (parameters_of b) xs → counted_answer c ≡ check_answer b xs
+  pub check_filter : r ≡ (Ok tt) → counted_answer c ≡ filter_answer (parameters_of b) xs → counted_answer c ≡ check_answer b xs
   unfolding check_answer accept_inputs accept_sheet filter_answer
   check_filter h g = g ∙ rw (sym e ∙ h) (sym (ap answer (count_filter (parameters_of b) (accept_filter xs))))

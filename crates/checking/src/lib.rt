@@ -1,7 +1,7 @@
 // Check: a sheet and a filter are read, and the first refusal in the order of the table decides.
 #![tactic(auto)]
 
-ghost use Rattle.std.specs.Prelude.{◌≡◌};
+ghost use Rattle.std.specs.Prelude.{◌≡◌, Err, Ok};
 ghost use Rattle.sheet.specs.Sheet.{parameters_of, read_sheet};
 ghost use Rattle.syntax.specs.Grammar.{deepest, most_tests};
 ghost use Rattle.place.specs.Machine.{failure};
@@ -9,11 +9,11 @@ ghost use Rattle.refusal.specs.Answers.{refused, number_of, refusal_answer, coun
 ghost use Rattle.answer.specs.Passing.{summary_answer};
 ghost use Rattle.answer.specs.Operations.{filter_answer, check_answer};
 
-use block::Validity;
 use filter::{Summary, check_filter, top};
 use place::find_failure;
 use refusal::{Reason, Refusal};
 use syntax::scan::skip;
+use block::Flaw;
 
 // A refusal as check's answer.
 pub fn refuse(reason: Reason, place: usize) -> Result<usize, Refusal>
@@ -43,7 +43,7 @@ fn no_filter(filter: &[u8]) -> Result<usize, Refusal>
 // The filter on a well-formed sheet.
 #[tactic(auto, using(crate::proofs::Checking::text_many, crate::proofs::Checking::text_answered))]
 fn check_text(sheet: &[u8], filter: &[u8]) -> Result<usize, Refusal>
-    requires { read_sheet sheet.now ≡ Validity.WellFormed }
+    requires { read_sheet sheet.now ≡ (Ok tt) }
     ensures { counted_answer result ≡ filter_answer (parameters_of sheet.now) filter.now }
 {
     if filter.len() == 0 {
@@ -72,9 +72,9 @@ pub fn check(sheet: &[u8], filter: &[u8]) -> Result<usize, Refusal>
 {
     let reading = sheet::read_sheet(sheet);
     match reading {
-        Validity::WellFormed => check_text(sheet, filter),
-        Validity::WrongSize => refuse(Reason::SheetSize, 0),
-        Validity::WrongSum => refuse(Reason::SheetSum, 0),
-        Validity::WrongLayout => refuse(Reason::SheetLayout, 0),
+        Ok(()) => check_text(sheet, filter),
+        Err(Flaw::Size) => refuse(Reason::SheetSize, 0),
+        Err(Flaw::Sum) => refuse(Reason::SheetSum, 0),
+        Err(Flaw::Layout) => refuse(Reason::SheetLayout, 0),
     }
 }

@@ -1,13 +1,12 @@
 -- What the code does over rows: the verdicts of the tests that they state, the mark of the whole, and the tests that are spared.
 -- Assumes nothing.
-use Rattle.std.specs.Prelude.{ℕ, ◌+◌, ◌≤◌, ◌<◌, ◌≡◌, Bool, true, false, List, [], ◌∷◌, ◌++◌, length, get_or, take, drop}
+use Rattle.std.specs.Prelude.{ℕ, ◌+◌, ◌≤◌, ◌<◌, ◌≡◌, Bool, true, false, List, [], ◌∷◌, ◌++◌, length, get_or, take, drop, Ok}
 use Rattle.std.proofs.Math.Option.{some}
 use Rattle.card.specs.Card.{Entry, entries_of, read_card}
 use Rattle.syntax.specs.Tree.{Tree}
 use Rattle.rows.specs.Expression.{Expression, probing, choosing, joining, negating}
 use Rattle.rows.specs.Cells.{Writable, on_from, stated}
 use Rattle.rows.specs.declared.Probe.{Probe}
-use Rattle.block.specs.declared.Validity.{Validity}
 use Rattle.judge.specs.Sets.{conforms_to}
 use Rattle.row_judge.specs.Saying.{expression_says, Whole}
 use Rattle.rows.specs.Stated.{tree_of}
@@ -71,7 +70,7 @@ pub record Room (rows : List ℕ) (first n : ℕ) : Type 0 where
 pub record Judgeable (kinds xs card : List ℕ) : Type 0 where
   pub each_kind : length kinds ≡ 32
   pub short : length xs ≤ 1024
-  pub well_formed : read_card card ≡ Validity.WellFormed
+  pub well_formed : read_card card ≡ (Ok tt)
   pub conforming : conforms_to kinds (entries_of card) ≡ true
 
 -- rows that state an expression, whose tests have room in the list of marks from the number first on

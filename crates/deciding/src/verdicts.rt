@@ -1,5 +1,5 @@
 // What the tests that rows state say of a card.
-ghost use Rattle.std.specs.Prelude.{◌≡◌, true, ◌≤◌, length};
+ghost use Rattle.std.specs.Prelude.{◌≡◌, true, ◌≤◌, length, Ok};
 ghost use Rattle.card.specs.Card.{entries_of, read_card};
 ghost use Rattle.judge.specs.Sets.{conforms_to};
 ghost use Rattle.row_judge.specs.Saying.{rows_say, Whole};
@@ -7,7 +7,6 @@ ghost use Rattle.deciding.specs.Deciding.{cell};
 ghost use Rattle.deciding.specs.Rows.{Tells, Room, Judgeable, Markable, FirstMarked, Gathers};
 
 use crate::marks::after_first;
-use block::Validity;
 use judge::Chosen;
 use row_judge::say_once;
 use rows::{Row, row_of};
@@ -93,7 +92,7 @@ pub fn gather_verdicts(
     requires filter_len_bound { length filter.now ≤ 1024 }
     requires whole { Whole rows.now }
     requires rows_len_bound { length rows.now ≤ 320 }
-    requires card_value { read_card card.now ≡ Validity.WellFormed }
+    requires card_value { read_card card.now ≡ (Ok tt) }
     requires card_value_2 { conforms_to kinds.now (entries_of card.now) ≡ true }
     requires marks_len { length marks.old ≡ 32 }
     requires room { Room rows.now 0 32 }

@@ -21,7 +21,6 @@ use Rattle.base.specs.Bytes.{Bytes}
 use Rattle.base.specs.Parts.{part}
 use Rattle.base.specs.Writing.{Room, Puts}
 use Rattle.base.proofs.All.{bytes_of}
-use Rattle.block.specs.declared.Validity.{Validity}
 use Rattle.sheet.specs.Sheet.{Parameter, parameters_of}
 use Rattle.sheet.specs.Find.{kinds_of, parents_of}
 use Rattle.sheet.specs.Encode.{WellFormedSheet, SheetBlock}
@@ -224,7 +223,7 @@ same_verdict false true e = let z : ◌≡◌ {A = ℕ} 0 1 = cc in absurd (omeg
 
 -- the card, from what is said of it
 record CardSays (ps : List Parameter) (card : List ℕ) (f : Tree) (says : Bool) : Type 0 where
-  reads : read_card card ≡ Validity.WellFormed
+  reads : read_card card ≡ (Ok tt)
   is_accepted : accept_card ps 0 card ≡ found (card_of card)
   verdict : says ≡ filter_says ps 0 (entries_of card) f
 

@@ -1,8 +1,7 @@
 -- What the code of explain does on every input: the answer of its definition, refused where a line of the table decides, and every cell; and
 -- what its parts are handed.
 -- Assumes nothing.
-use Rattle.std.specs.Prelude.{ℕ, ◌≤◌, ◌≡◌, Bool, List, length, Result}
-use Rattle.block.specs.declared.Validity.{Validity}
+use Rattle.std.specs.Prelude.{ℕ, ◌≤◌, ◌≡◌, Bool, List, length, Result, Ok}
 use Rattle.sheet.specs.Sheet.{parameters_of, read_sheet}
 use Rattle.card.specs.Card.{record_number, entries_of, read_card}
 use Rattle.syntax.specs.Tree.{Tree, erase}
@@ -32,12 +31,12 @@ pub record ExplainsInto (sheet text card list : List ℕ) (r : Result Bool Refus
 pub record Judged (sheet text rows card : List ℕ) (says : Bool) : Type 0 where
   pub filter : Tree
   pub inputs_accepted : accept_inputs sheet text ≡ found (record { parameters = parameters_of sheet; filter = filter })
-  pub sheet_reads : read_sheet sheet ≡ Validity.WellFormed
+  pub sheet_reads : read_sheet sheet ≡ (Ok tt)
   pub short : length text ≤ 1024
   pub good : Good (parameters_of sheet) text rows
   pub states : erase (tree_of (parameters_of sheet) text good.expression) ≡ erase filter
   pub whole : Whole rows
   pub few : length rows ≤ 320
-  pub card_reads : read_card card ≡ Validity.WellFormed
+  pub card_reads : read_card card ≡ (Ok tt)
   pub card_accepted : accept_card (parameters_of sheet) 0 card ≡ found (record { number = record_number card; entries = entries_of card })
   pub verdict : says ≡ filter_says (parameters_of sheet) 0 (entries_of card) filter

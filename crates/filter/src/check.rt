@@ -1,5 +1,5 @@
 // Reading a filter: its tests are counted, and the first refusal among them is kept.
-ghost use Rattle.std.specs.Prelude.{◌≡◌, Bool, ◌+◌, ◌≤◌, ◌<◌, length};
+ghost use Rattle.std.specs.Prelude.{◌≡◌, Bool, ◌+◌, ◌≤◌, ◌<◌, length, Ok};
 ghost use Rattle.sheet.specs.Sheet.{parameters_of, read_sheet};
 ghost use Rattle.syntax.specs.Placed.{Placed};
 ghost use Rattle.syntax.specs.Scan.{test_of};
@@ -10,7 +10,6 @@ ghost use Rattle.filter.specs.Folds.{walked, join_summaries, reading};
 ghost use Rattle.filter.specs.Walks.{answer_of};
 
 use crate::{Spot, Summary, Walked};
-use block::Validity;
 use judge::test_fault;
 use syntax::scan::skip;
 use syntax::{Head, RawTest, read_close, read_connective, read_head, read_member};
@@ -23,7 +22,7 @@ pub fn test_summary(
     position: usize,
     test: RawTest,
 ) -> Summary
-    requires sheet_value { read_sheet sheet.now ≡ Validity.WellFormed }
+    requires sheet_value { read_sheet sheet.now ≡ (Ok tt) }
     requires filter_len_bound { length filter.now ≤ 1024 }
     requires placed { Placed filter.now test }
     ensures { result ≡ (reading (parameters_of sheet.now) bundle).one (moved position (test_of filter.now test)) }
@@ -48,7 +47,7 @@ pub fn join_summaries(a: Summary, b: Summary) -> Summary
 // The filter in round brackets at a spot inside them, after not or without.
 #[cycle(checking)]
 fn check_round(sheet: &[u8], filter: &[u8], spot: Spot) -> Option<Walked>
-    requires sheet_value { read_sheet sheet.now ≡ Validity.WellFormed }
+    requires sheet_value { read_sheet sheet.now ≡ (Ok tt) }
     requires filter_len_bound { length filter.now ≤ 1024 }
     requires at_in_bounds { spot.at ≤ length filter.now }
     requires close_value { spot.close ≡ round }
@@ -65,7 +64,7 @@ fn check_round(sheet: &[u8], filter: &[u8], spot: Spot) -> Option<Walked>
 // the brackets.
 #[cycle(checking)]
 fn check_chosen(sheet: &[u8], filter: &[u8], spot: Spot, until: usize) -> Option<Walked>
-    requires sheet_value { read_sheet sheet.now ≡ Validity.WellFormed }
+    requires sheet_value { read_sheet sheet.now ≡ (Ok tt) }
     requires filter_len_bound { length filter.now ≤ 1024 }
     requires at_le_until { spot.at ≤ until }
     requires until_in_bounds { until < length filter.now }
@@ -97,7 +96,7 @@ fn check_chosen(sheet: &[u8], filter: &[u8], spot: Spot, until: usize) -> Option
 // after its bundle's brackets.
 #[cycle(checking)]
 fn check_item(sheet: &[u8], filter: &[u8], spot: Spot) -> Option<Walked>
-    requires sheet_value { read_sheet sheet.now ≡ Validity.WellFormed }
+    requires sheet_value { read_sheet sheet.now ≡ (Ok tt) }
     requires filter_len_bound { length filter.now ≤ 1024 }
     requires at_in_bounds { spot.at ≤ length filter.now }
     ensures { result ≡ answer_of walked (reading (parameters_of sheet.now) spot.bundle) (item_at spot.levels filter.now spot.close spot.at) }
@@ -142,7 +141,7 @@ fn check_item(sheet: &[u8], filter: &[u8], spot: Spot) -> Option<Walked>
 // The filter at a spot: "one or more items joined by and or or", from left to right.
 #[cycle(checking)]
 pub fn check_filter(sheet: &[u8], filter: &[u8], spot: Spot) -> Option<Walked>
-    requires sheet_value { read_sheet sheet.now ≡ Validity.WellFormed }
+    requires sheet_value { read_sheet sheet.now ≡ (Ok tt) }
     requires filter_len_bound { length filter.now ≤ 1024 }
     requires at_in_bounds { spot.at ≤ length filter.now }
     ensures { result ≡ answer_of walked (reading (parameters_of sheet.now) spot.bundle) (filter_at spot.levels filter.now spot.close spot.at) }

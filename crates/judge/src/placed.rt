@@ -1,5 +1,5 @@
 // Tests as they stand in the filter's text: a value without escapes is judged where it stands, one with escapes in a buffer.
-ghost use Rattle.std.specs.Prelude.{◌≡◌, ◌≤◌, length};
+ghost use Rattle.std.specs.Prelude.{◌≡◌, ◌≤◌, length, Ok};
 ghost use Rattle.sheet.specs.Sheet.{parameters_of, read_sheet};
 ghost use Rattle.card.specs.Card.{entries_of, read_card};
 ghost use Rattle.syntax.specs.Scan.{test_of};
@@ -14,7 +14,6 @@ use crate::Chosen;
 use crate::faults::fault_at;
 use crate::values::text_counts;
 use crate::verdicts::says_at;
-use block::Validity;
 use kind::Meaning;
 use refusal::Refusal;
 use sheet::Found;
@@ -23,7 +22,7 @@ use syntax::value::decode;
 
 // The parameter that a test of the filter names, on a well-formed sheet, looked up in a bundle.
 pub fn test_found(sheet: &[u8], bundle: u8, filter: &[u8], test: RawTest) -> Option<Found>
-    requires sheet_value { read_sheet sheet.now ≡ Validity.WellFormed }
+    requires sheet_value { read_sheet sheet.now ≡ (Ok tt) }
     requires placed { Placed filter.now test }
     ensures { result ≡ lookup (parameters_of sheet.now) bundle (test_of filter.now test).path }
 {
@@ -38,7 +37,7 @@ pub fn test_fault(
     place: usize,
     test: RawTest,
 ) -> Result<(), Refusal>
-    requires sheet_value { read_sheet sheet.now ≡ Validity.WellFormed }
+    requires sheet_value { read_sheet sheet.now ≡ (Ok tt) }
     requires filter_len_bound { length filter.now ≤ 1024 }
     requires placed { Placed filter.now test }
     ensures { result ≡ test_fault (parameters_of sheet.now) bundle (moved place (test_of filter.now test)) }
@@ -62,8 +61,8 @@ pub fn test_says(
     filter: &[u8],
     test: RawTest,
 ) -> bool
-    requires sheet_value { read_sheet sheet.now ≡ Validity.WellFormed }
-    requires card_value { read_card card.now ≡ Validity.WellFormed }
+    requires sheet_value { read_sheet sheet.now ≡ (Ok tt) }
+    requires card_value { read_card card.now ≡ (Ok tt) }
     requires filter_len_bound { length filter.now ≤ 1024 }
     requires placed { Placed filter.now test }
     ensures { result ≡ test_says (parameters_of sheet.now) bundle (chosen_of chosen (entries_of card.now)) (test_of filter.now test) }

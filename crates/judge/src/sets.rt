@@ -1,5 +1,5 @@
 // The texts of a card: whether they conform to a sheet, and those under one parameter.
-ghost use Rattle.std.specs.Prelude.{◌≡◌, ◌&&◌, get_or};
+ghost use Rattle.std.specs.Prelude.{◌≡◌, ◌&&◌, get_or, Ok};
 ghost use Rattle.card.specs.Card.{entries_of, read_card};
 ghost use Rattle.kind.specs.Readable.{card_readable};
 ghost use Rattle.judge.specs.Sets.{values_at, counts, chosen_of, conforms_to};
@@ -7,7 +7,6 @@ ghost use Rattle.judge.specs.Verdicts.{some_value, text_counts};
 
 use crate::Chosen;
 use crate::values::text_counts;
-use block::Validity;
 use kind::Meaning;
 
 // Whether the text of an entry is readable as the kind of its parameter.
@@ -23,7 +22,7 @@ fn entry_conforms(kinds: &[u8], index: u8, text: &[u8]) -> bool
 
 // Whether a well-formed card conforms to a sheet with these kinds (01: fits).
 pub fn conforms(kinds: &[u8], card: &[u8]) -> bool
-    requires { read_card card.now ≡ Validity.WellFormed }
+    requires { read_card card.now ≡ (Ok tt) }
     ensures { result ≡ conforms_to kinds.now (entries_of card.now) }
 {
     card::entries_of(card).all(|e| entry_conforms(kinds, e.tag, e.text))
@@ -41,7 +40,7 @@ pub fn is_under(chosen: Chosen, occurrence: u8, same: bool) -> bool
 
 // Whether some text under a parameter counts for a meaning and a value, among the entries that count.
 pub fn some_counts(card: &[u8], chosen: Chosen, index: u8, meaning: Meaning, value: &[u8]) -> bool
-    requires { read_card card.now ≡ Validity.WellFormed }
+    requires { read_card card.now ≡ (Ok tt) }
     ensures { result ≡ some_value (text_counts meaning value.now) (values_at index (chosen_of chosen (entries_of card.now))) }
 {
     card::entries_of(card).any(|e| is_under(chosen, e.mark, e.tag == index)

@@ -1,18 +1,17 @@
 // What a test says of a card.
-ghost use Rattle.std.specs.Prelude.{◌≡◌};
+ghost use Rattle.std.specs.Prelude.{◌≡◌, Ok};
 ghost use Rattle.card.specs.Card.{entries_of, read_card};
 ghost use Rattle.judge.specs.Sets.{values_at, chosen_of};
 ghost use Rattle.judge.specs.Verdicts.{some_says, says_of, says_at};
 
 use crate::Chosen;
 use crate::sets::some_counts;
-use block::Validity;
 use kind::Meaning;
 use sheet::Found;
 
 // What a test with this meaning and value says of the texts under a parameter.
 pub fn says_of(card: &[u8], chosen: Chosen, index: u8, meaning: Meaning, value: &[u8]) -> bool
-    requires { read_card card.now ≡ Validity.WellFormed }
+    requires { read_card card.now ≡ (Ok tt) }
     ensures { result ≡ says_of meaning value.now (values_at index (chosen_of chosen (entries_of card.now))) }
 {
     let some = some_counts(card, chosen, index, meaning, value);
@@ -27,7 +26,7 @@ pub fn says_at(
     operator: u8,
     value: &[u8],
 ) -> bool
-    requires { read_card card.now ≡ Validity.WellFormed }
+    requires { read_card card.now ≡ (Ok tt) }
     ensures { result ≡ says_at found operator value.now (chosen_of chosen (entries_of card.now)) }
 {
     match found {

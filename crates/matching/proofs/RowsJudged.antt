@@ -1,6 +1,6 @@
 -- Judge, as the code comes to its answer.
 -- Assumes nothing.
-use Rattle.std.specs.Prelude.{Result}
+use Rattle.std.specs.Prelude.{Result, Err, Ok, ⊤}
 use Prim.Native.Nat.{ℕ, ◌≤◌, ◌<◌}
 use native.Mathlib.Omega.{arith}
 use mathlib.Core.Path.{◌≡◌, refl, sym, ap, ap₂, ◌∙◌}
@@ -8,7 +8,6 @@ use mathlib.Core.Bool.{Bool, true, false}
 use mathlib.Core.List.{List}
 use lib.ListN.{length}
 use borrow.Author.Tests.{eq-eqb, ne_eqb, lt-ltb, le-ltb}
-use Rattle.block.specs.declared.Validity.{Validity}
 use Rattle.sheet.specs.Sheet.{Parameter, parameters_of, read_sheet}
 use Rattle.sheet.specs.Find.{kinds_of, parents_of}
 use Rattle.sheet.proofs.RoundTrip.{sheet_well_formed}
@@ -27,6 +26,7 @@ use Rattle.one_card.specs.OneCard.{verdict_step, verdict_answer, cells_question}
 use Rattle.answer.specs.Preparing.{accept_size, accept_rows, rows_answer, judge_answer}
 use Rattle.answer.proofs.Passing.{yes_or_no_after, same-verdicts}
 use Rattle.refusal.specs.declared.Refusal.{Refusal}
+use Rattle.block.specs.declared.Flaw.{Flaw}
 
 -- ---- the text's size
 
@@ -43,7 +43,7 @@ module _ (ps : List Parameter) (xs cs card : List ℕ) (r : Result Bool Refusal)
 
 -- ---- the rows
 
-module _ (b xs cs card : List ℕ) (ok : read_sheet b ≡ Validity.WellFormed) (n : length xs ≡ 0 → ⊥) (l : length xs ≤ 1024) (kinds parents : List ℕ) (ek : kinds ≡ kinds_of (parameters_of b)) (ep : parents ≡ parents_of (parameters_of b))
+module _ (b xs cs card : List ℕ) (ok : read_sheet b ≡ (Ok tt)) (n : length xs ≡ 0 → ⊥) (l : length xs ≤ 1024) (kinds parents : List ℕ) (ek : kinds ≡ kinds_of (parameters_of b)) (ep : parents ≡ parents_of (parameters_of b))
     (sound : Bool) (g : sound ≡ good kinds parents xs cs) where
   abbrev ps : List Parameter
   ps = parameters_of b
@@ -85,20 +85,20 @@ module _ (b xs cs card : List ℕ) (ok : read_sheet b ≡ Validity.WellFormed) (
 
 -- ---- the sheet
 
-module _ (b xs cs card : List ℕ) (k : Validity) (e : k ≡ read_sheet b) (r : Result Bool Refusal) where
-  judge_sheet : (j : Validity) (n : ℕ) → ((ps : List Parameter) → sheet_step j ps ≡ stop n 0) → k ≡ j → matched_answer r ≡ refused n 0 → matched_answer r ≡ judge_answer b xs cs card
+module _ (b xs cs card : List ℕ) (k : Result ⊤ Flaw) (e : k ≡ read_sheet b) (r : Result Bool Refusal) where
+  judge_sheet : (j : Result ⊤ Flaw) (n : ℕ) → ((ps : List Parameter) → sheet_step j ps ≡ stop n 0) → k ≡ j → matched_answer r ≡ refused n 0 → matched_answer r ≡ judge_answer b xs cs card
   unfolding judge_answer accept_sheet
   judge_sheet j n t i h = h ∙ rw (sym e ∙ i, t (parameters_of b))
 
-  pub judge_size : k ≡ Validity.WrongSize → matched_answer r ≡ refused (number_of Reason.SheetSize) 0 → matched_answer r ≡ judge_answer b xs cs card
-  judge_size = judge_sheet Validity.WrongSize 1 (λ ps. refl)
+  pub judge_size : k ≡ (Err Flaw.Size) → matched_answer r ≡ refused (number_of Reason.SheetSize) 0 → matched_answer r ≡ judge_answer b xs cs card
+  judge_size = judge_sheet (Err Flaw.Size) 1 (λ ps. refl)
 
-  pub judge_sum : k ≡ Validity.WrongSum → matched_answer r ≡ refused (number_of Reason.SheetSum) 0 → matched_answer r ≡ judge_answer b xs cs card
-  judge_sum = judge_sheet Validity.WrongSum 2 (λ ps. refl)
+  pub judge_sum : k ≡ (Err Flaw.Sum) → matched_answer r ≡ refused (number_of Reason.SheetSum) 0 → matched_answer r ≡ judge_answer b xs cs card
+  judge_sum = judge_sheet (Err Flaw.Sum) 2 (λ ps. refl)
 
-  pub judge_layout : k ≡ Validity.WrongLayout → matched_answer r ≡ refused (number_of Reason.SheetLayout) 0 → matched_answer r ≡ judge_answer b xs cs card
-  judge_layout = judge_sheet Validity.WrongLayout 3 (λ ps. refl)
+  pub judge_layout : k ≡ (Err Flaw.Layout) → matched_answer r ≡ refused (number_of Reason.SheetLayout) 0 → matched_answer r ≡ judge_answer b xs cs card
+  judge_layout = judge_sheet (Err Flaw.Layout) 3 (λ ps. refl)
 
-  pub judge_right : k ≡ Validity.WellFormed → matched_answer r ≡ rows_answer (parameters_of b) xs cs card → matched_answer r ≡ judge_answer b xs cs card
+  pub judge_right : k ≡ (Ok tt) → matched_answer r ≡ rows_answer (parameters_of b) xs cs card → matched_answer r ≡ judge_answer b xs cs card
   unfolding judge_answer accept_sheet rows_answer
   judge_right i h = h ∙ sym (rw (sym e ∙ i))

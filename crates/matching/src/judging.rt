@@ -1,13 +1,13 @@
 // Judge: a card under a sheet and rows that are good for a filter's text.
-ghost use Rattle.std.specs.Prelude.{◌≡◌};
+ghost use Rattle.std.specs.Prelude.{◌≡◌, Err, Ok};
 ghost use Rattle.sheet.specs.Sheet.{parameters_of, read_sheet};
 ghost use Rattle.refusal.specs.Answers.{refused, number_of, matched_answer};
 ghost use Rattle.answer.specs.Preparing.{rows_answer, judge_answer};
 
-use block::Validity;
 use one_card::{answered, judge_once};
 use refusal::{Reason, Refusal};
 use rows::are_good;
+use block::Flaw;
 
 // A refusal at 0 as judge's answer.
 fn refuse(reason: Reason) -> Result<bool, Refusal>
@@ -18,7 +18,7 @@ fn refuse(reason: Reason) -> Result<bool, Refusal>
 
 // The verdict of rows on a card, under a well-formed sheet.
 fn judge_rows(sheet: &[u8], filter: &[u8], rows: &[u32], card: &[u8]) -> Result<bool, Refusal>
-    requires { read_sheet sheet.now ≡ Validity.WellFormed }
+    requires { read_sheet sheet.now ≡ (Ok tt) }
     ensures { matched_answer result ≡ rows_answer (parameters_of sheet.now) filter.now rows.now card.now }
 {
     if filter.len() == 0 {
@@ -42,9 +42,9 @@ pub fn judge(sheet: &[u8], filter: &[u8], rows: &[u32], card: &[u8]) -> Result<b
 {
     let reading = sheet::read_sheet(sheet);
     match reading {
-        Validity::WellFormed => judge_rows(sheet, filter, rows, card),
-        Validity::WrongSize => refuse(Reason::SheetSize),
-        Validity::WrongSum => refuse(Reason::SheetSum),
-        Validity::WrongLayout => refuse(Reason::SheetLayout),
+        Ok(()) => judge_rows(sheet, filter, rows, card),
+        Err(Flaw::Size) => refuse(Reason::SheetSize),
+        Err(Flaw::Sum) => refuse(Reason::SheetSum),
+        Err(Flaw::Layout) => refuse(Reason::SheetLayout),
     }
 }

@@ -14,7 +14,6 @@ use mathlib.Core.Option.{none, some}
 use mathlib.Core.List.{List}
 use lib.IntN.{ℤ}
 use lib.ListN.{length}
-use Rattle.block.specs.declared.Validity.{Validity}
 use Rattle.sheet.specs.Sheet.{Parameter, parameters_of}
 use Rattle.sheet.specs.Find.{kinds_of}
 use Rattle.card.specs.Card.{Entry, entries_of, read_card, record_number}
@@ -43,6 +42,7 @@ use Rattle.answer.specs.Passing.{Passing, text_says, text_question, card_verdict
 use Rattle.one_card.specs.OneCard.{verdict_step, AcceptsCard, TakesCard, cells_question, verdict_answer}
 use Rattle.refusal.specs.declared.Refusal.{Refusal}
 use Rattle.answer.proofs.Passing.{passing_asks, yes_or_no_after}
+use Rattle.block.specs.declared.Flaw.{Flaw}
 
 -- ---- what the filter says
 
@@ -65,27 +65,27 @@ module _ (ps : List Parameter) (es : List Entry) (b xs : List ℕ) (p : Passing 
 
 -- ---- one card is accepted
 
-module _ (kinds b : List ℕ) (r : Validity) (e : r ≡ read_card b) where
-  accepted_refused : (k : Validity) (x : Reason) → ((fits : Bool) (c : Card) (i : ℕ) → card_step k fits c i ≡ stop (number_of x) i) → r ≡ k → AcceptsCard kinds b (Err x)
+module _ (kinds b : List ℕ) (r : Result ⊤ Flaw) (e : r ≡ read_card b) where
+  accepted_refused : (k : Result ⊤ Flaw) (x : Reason) → ((fits : Bool) (c : Card) (i : ℕ) → card_step k fits c i ≡ stop (number_of x) i) → r ≡ k → AcceptsCard kinds b (Err x)
   accepted_refused k x t h =
       record {
         well_formed = λ z. absurd (let y : ◌≡◌ {A = ℕ} 0 1 = cc in omega arith);
         steps = λ ps l i. (unfold accept_card in rw (sym e ∙ h, t (conforms ps (entries_of b)) (record { number = record_number b; entries = entries_of b }) i));
       }
 
-  pub accepts_size : r ≡ Validity.WrongSize → AcceptsCard kinds b (Err Reason.CardSize)
-  accepts_size = accepted_refused Validity.WrongSize Reason.CardSize (λ fits c i. refl)
+  pub accepts_size : r ≡ (Err Flaw.Size) → AcceptsCard kinds b (Err Reason.CardSize)
+  accepts_size = accepted_refused (Err Flaw.Size) Reason.CardSize (λ fits c i. refl)
 
-  pub accepts_sum : r ≡ Validity.WrongSum → AcceptsCard kinds b (Err Reason.CardSum)
-  accepts_sum = accepted_refused Validity.WrongSum Reason.CardSum (λ fits c i. refl)
+  pub accepts_sum : r ≡ (Err Flaw.Sum) → AcceptsCard kinds b (Err Reason.CardSum)
+  accepts_sum = accepted_refused (Err Flaw.Sum) Reason.CardSum (λ fits c i. refl)
 
-  pub accepts_layout : r ≡ Validity.WrongLayout → AcceptsCard kinds b (Err Reason.CardLayout)
-  accepts_layout = accepted_refused Validity.WrongLayout Reason.CardLayout (λ fits c i. refl)
+  pub accepts_layout : r ≡ (Err Flaw.Layout) → AcceptsCard kinds b (Err Reason.CardLayout)
+  accepts_layout = accepted_refused (Err Flaw.Layout) Reason.CardLayout (λ fits c i. refl)
 
-  pub card-known : r ≡ Validity.WellFormed → read_card b ≡ Validity.WellFormed
+  pub card-known : r ≡ (Ok tt) → read_card b ≡ (Ok tt)
   card-known h = sym e ∙ h
 
-  module _ (o : Bool) (g : o ≡ conforms_to kinds (entries_of b)) (h : r ≡ Validity.WellFormed) where
+  module _ (o : Bool) (g : o ≡ conforms_to kinds (entries_of b)) (h : r ≡ (Ok tt)) where
     fits : (ps : List Parameter) → kinds ≡ kinds_of ps → conforms ps (entries_of b) ≡ o
     fits ps l = sym (g ∙ ap (λ (k : List ℕ). conforms_to k (entries_of b)) l ∙ table_conforms ps (entries_of b))
 
@@ -106,7 +106,7 @@ module _ (kinds b : List ℕ) (r : Validity) (e : r ≡ read_card b) where
 -- ---- and judged
 
 module _ (kinds b : List ℕ) (t : Result ⊤ Reason) (e : AcceptsCard kinds b t) where
-  pub conforming_known : t ≡ (Ok tt) → read_card b ≡ Validity.WellFormed
+  pub conforming_known : t ≡ (Ok tt) → read_card b ≡ (Ok tt)
   conforming_known h = e.well_formed h
 
   module _ (q : Question) (l : kinds ≡ kinds_of q.parameters) where
@@ -129,20 +129,20 @@ module _ (kinds b : List ℕ) (t : Result ⊤ Reason) (e : AcceptsCard kinds b t
 
 -- ---- and what it holds is kept
 
-module _ (kinds b : List ℕ) (r : Validity) (e : r ≡ read_card b) (cells : List ℕ) (spans : List ℤ) (l : Lent cells spans) where
+module _ (kinds b : List ℕ) (r : Result ⊤ Flaw) (e : r ≡ read_card b) (cells : List ℕ) (spans : List ℤ) (l : Lent cells spans) where
   takes_refused : (x : Reason) → AcceptsCard kinds b (Err x) → TakesCard kinds b cells cells spans (Err x)
   takes_refused x a = record { accepts = a; lent = l; begins = record { size = refl; same = λ _ _. refl }; keeps = λ z. absurd (let y : ◌≡◌ {A = ℕ} 0 1 = cc in omega arith) }
 
-  pub takes_size : r ≡ Validity.WrongSize → TakesCard kinds b cells cells spans (Err Reason.CardSize)
+  pub takes_size : r ≡ (Err Flaw.Size) → TakesCard kinds b cells cells spans (Err Reason.CardSize)
   takes_size h = takes_refused Reason.CardSize (accepts_size kinds b r e h)
 
-  pub takes_sum : r ≡ Validity.WrongSum → TakesCard kinds b cells cells spans (Err Reason.CardSum)
+  pub takes_sum : r ≡ (Err Flaw.Sum) → TakesCard kinds b cells cells spans (Err Reason.CardSum)
   takes_sum h = takes_refused Reason.CardSum (accepts_sum kinds b r e h)
 
-  pub takes_layout : r ≡ Validity.WrongLayout → TakesCard kinds b cells cells spans (Err Reason.CardLayout)
+  pub takes_layout : r ≡ (Err Flaw.Layout) → TakesCard kinds b cells cells spans (Err Reason.CardLayout)
   takes_layout h = takes_refused Reason.CardLayout (accepts_layout kinds b r e h)
 
-module _ (kinds b : List ℕ) (r : Validity) (e : r ≡ read_card b) (h : r ≡ Validity.WellFormed) (before cells : List ℕ) (spans : List ℤ) (o : Bool) (w : ReadsCard kinds b before cells spans o) where
+module _ (kinds b : List ℕ) (r : Result ⊤ Flaw) (e : r ≡ read_card b) (h : r ≡ (Ok tt)) (before cells : List ℕ) (spans : List ℤ) (o : Bool) (w : ReadsCard kinds b before cells spans o) where
   pub takes_misfit : o ≡ false → TakesCard kinds b before cells spans (Err Reason.CardMisfit)
   takes_misfit n =
       record {

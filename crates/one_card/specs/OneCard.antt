@@ -1,7 +1,6 @@
 -- One card under a sheet: what the cases of the code's answers state of it, and what rows ask of it.
 -- Assumes nothing.
 use Rattle.std.specs.Prelude.{ℕ, ◌≡◌, Bool, List, ℤ, Err, Ok, Result, ⊤}
-use Rattle.block.specs.declared.Validity.{Validity}
 use Rattle.sheet.specs.Sheet.{Parameter}
 use Rattle.sheet.specs.Find.{kinds_of}
 use Rattle.card.specs.Card.{record_number, entries_of, read_card}
@@ -21,7 +20,7 @@ acceptance_step (Err r) b i = stop (number_of r) i
 
 -- what accepting a card answers, by the kinds of the sheet
 pub record AcceptsCard (kinds card : List ℕ) (r : Result ⊤ Reason) : Type 0 where
-  pub well_formed : r ≡ (Ok tt) → read_card card ≡ Validity.WellFormed
+  pub well_formed : r ≡ (Ok tt) → read_card card ≡ (Ok tt)
   pub steps : (ps : List Parameter) → kinds ≡ kinds_of ps → (i : ℕ) → acceptance_step r card i ≡ accept_card ps i card
 
 -- the same, with what is kept of a card that is accepted in lists that were lent

@@ -10,12 +10,12 @@ ghost use Rattle.answer.specs.Passing.{card_verdict};
 ghost use Rattle.one_card.specs.OneCard.{verdict_step};
 ghost use Rattle.one_card.specs.OneCard.{cells_question, TakesCard};
 
-use block::Validity;
 use card_reader::read_entries;
 use judge::Chosen;
 use refusal::Reason;
 use row_judge::{lend_for, rows_say};
 use row_opener::open_rows;
+use block::Flaw;
 
 // Reads a card as accept_card does, and keeps what its entries read to; `kinds` are those of the sheet.
 fn take_card(kinds: &[u8], card: &[u8], cells: &mut [u64], spans: &mut [i64]) -> Result<(), Reason>
@@ -25,15 +25,15 @@ fn take_card(kinds: &[u8], card: &[u8], cells: &mut [u64], spans: &mut [i64]) ->
 {
     let reading = card::read_card(card);
     match reading {
-        Validity::WellFormed => {
+        Ok(()) => {
             if read_entries(kinds, card, cells, spans) {
                 return Ok(());
             }
             Err(Reason::CardMisfit)
         }
-        Validity::WrongSize => Err(Reason::CardSize),
-        Validity::WrongSum => Err(Reason::CardSum),
-        Validity::WrongLayout => Err(Reason::CardLayout),
+        Err(Flaw::Size) => Err(Reason::CardSize),
+        Err(Flaw::Sum) => Err(Reason::CardSum),
+        Err(Flaw::Layout) => Err(Reason::CardLayout),
     }
 }
 

@@ -1,5 +1,5 @@
 // The second engine: it walks the filter's text for each card, without rows, and decides as it reads. It is held against the first.
-ghost use Rattle.std.specs.Prelude.{◌≡◌, ℕ};
+ghost use Rattle.std.specs.Prelude.{◌≡◌, ℕ, Err, Ok};
 ghost use Rattle.sheet.specs.Sheet.{parameters_of};
 ghost use Rattle.sheet.specs.Find.{kinds_of};
 ghost use Rattle.card.specs.Card.{entries_of, read_card};
@@ -8,7 +8,6 @@ ghost use Rattle.answer.specs.Passing.{Passing, text_says, text_question, card_v
 ghost use Rattle.one_card.specs.OneCard.{verdict_step};
 
 use crate::accept_card;
-use block::Validity;
 use filter::top;
 use judge::Chosen;
 use refusal::Reason;
@@ -17,7 +16,7 @@ use text_judge::{Judged, judge_filter};
 // What a filter that check has passed says of a well-formed card.
 fn text_says(sheet: &[u8], filter: &[u8], card: &[u8]) -> bool
     requires passing { Passing sheet.now filter.now }
-    requires card_value { read_card card.now ≡ Validity.WellFormed }
+    requires card_value { read_card card.now ≡ (Ok tt) }
     ensures { result ≡ text_says (parameters_of sheet.now) (entries_of card.now) (read filter.now) }
 {
     let spot = top(filter);

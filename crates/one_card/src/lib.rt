@@ -8,11 +8,11 @@ ghost use Rattle.std.specs.Prelude.{◌≡◌};
 ghost use Rattle.one_card.specs.OneCard.{AcceptsCard, verdict_answer};
 ghost use Rattle.refusal.specs.Answers.{matched_answer};
 
-use block::Validity;
 pub use by_rows::{judge_by_rows, judge_once};
 pub use by_text::judge_by_text;
 use judge::conforms;
 use refusal::{Reason, Refusal};
+use block::Flaw;
 
 // Reads a card; `kinds` are those of the sheet.
 #[tactic(auto, using(crate::proofs::Judging::accepts_conforming, crate::proofs::Judging::accepts_misfit))]
@@ -21,15 +21,15 @@ pub fn accept_card(kinds: &[u8], card: &[u8]) -> Result<(), Reason>
 {
     let reading = card::read_card(card);
     match reading {
-        Validity::WellFormed => {
+        Ok(()) => {
             if conforms(kinds, card) {
                 return Ok(());
             }
             Err(Reason::CardMisfit)
         }
-        Validity::WrongSize => Err(Reason::CardSize),
-        Validity::WrongSum => Err(Reason::CardSum),
-        Validity::WrongLayout => Err(Reason::CardLayout),
+        Err(Flaw::Size) => Err(Reason::CardSize),
+        Err(Flaw::Sum) => Err(Reason::CardSum),
+        Err(Flaw::Layout) => Err(Reason::CardLayout),
     }
 }
 

@@ -16,7 +16,6 @@ use lib.Seq.{length-take-le}
 use borrow.Author.Tests.{eq-eqb, ne_eqb, lt-ltb, le-leb, lt-leb}
 use Rattle.base.specs.Runs.{RunEnd}
 use Rattle.base.specs.Parts.{part}
-use Rattle.block.specs.declared.Validity.{Validity}
 use Rattle.sheet.specs.Sheet.{Parameter, parameters_of, read_sheet}
 use Rattle.syntax.specs.Tree.{Tree, tests_of}
 use Rattle.syntax.specs.Scan.{is_space}
@@ -42,6 +41,7 @@ use Rattle.answer.specs.Operations.{accept_filter, decision_step, tests_step, sh
 use Rattle.answer.specs.Passing.{summary_answer}
 use Rattle.answer.specs.Preparing.{row_cells, accept_cells, preparation, prepare_answer, prepare_cells, filled_step, text_rows, FillsText, Fills, Prepares}
 use Rattle.answer.proofs.Inputs.{text_read}
+use Rattle.block.specs.declared.Flaw.{Flaw}
 
 -- ---- refusals
 
@@ -180,22 +180,22 @@ rows_filter : (ps : List Parameter) (xs : List ℕ) (t : Step Tree)
 rows_filter ps xs (found f) = rows_tests ps xs f (tests_step ps (tests_of f))
 rows_filter ps xs (stop n p) = refl
 
-module _ (b xs : List ℕ) (k : Validity) (e : k ≡ read_sheet b) (r : Result ℕ Refusal) (buffer : List ℕ) where
-  fill_sheet : (j : Validity) (n : ℕ) → ((ps : List Parameter) → sheet_step j ps ≡ stop n 0) → k ≡ j → counted_answer r ≡ refused n 0 → Fills b xs r buffer
+module _ (b xs : List ℕ) (k : Result ⊤ Flaw) (e : k ≡ read_sheet b) (r : Result ℕ Refusal) (buffer : List ℕ) where
+  fill_sheet : (j : Result ⊤ Flaw) (n : ℕ) → ((ps : List Parameter) → sheet_step j ps ≡ stop n 0) → k ≡ j → counted_answer r ≡ refused n 0 → Fills b xs r buffer
   unfolding accept_inputs accept_sheet
   fill_sheet j n t i h =
       record { rows = refused_step r buffer n 0 h ∙ sym (rw (sym e ∙ i, t (parameters_of b))); room = λ m q. absurd (refused_room r n 0 h m q) }
 
-  pub fill_size : k ≡ Validity.WrongSize → counted_answer r ≡ refused (number_of Reason.SheetSize) 0 → Fills b xs r buffer
-  fill_size = fill_sheet Validity.WrongSize 1 (λ ps. refl)
+  pub fill_size : k ≡ (Err Flaw.Size) → counted_answer r ≡ refused (number_of Reason.SheetSize) 0 → Fills b xs r buffer
+  fill_size = fill_sheet (Err Flaw.Size) 1 (λ ps. refl)
 
-  pub fill_sum : k ≡ Validity.WrongSum → counted_answer r ≡ refused (number_of Reason.SheetSum) 0 → Fills b xs r buffer
-  fill_sum = fill_sheet Validity.WrongSum 2 (λ ps. refl)
+  pub fill_sum : k ≡ (Err Flaw.Sum) → counted_answer r ≡ refused (number_of Reason.SheetSum) 0 → Fills b xs r buffer
+  fill_sum = fill_sheet (Err Flaw.Sum) 2 (λ ps. refl)
 
-  pub fill_layout : k ≡ Validity.WrongLayout → counted_answer r ≡ refused (number_of Reason.SheetLayout) 0 → Fills b xs r buffer
-  fill_layout = fill_sheet Validity.WrongLayout 3 (λ ps. refl)
+  pub fill_layout : k ≡ (Err Flaw.Layout) → counted_answer r ≡ refused (number_of Reason.SheetLayout) 0 → Fills b xs r buffer
+  fill_layout = fill_sheet (Err Flaw.Layout) 3 (λ ps. refl)
 
-  pub fill_right : k ≡ Validity.WellFormed → FillsText (parameters_of b) xs r buffer → Fills b xs r buffer
+  pub fill_right : k ≡ (Ok tt) → FillsText (parameters_of b) xs r buffer → Fills b xs r buffer
   unfolding accept_inputs accept_sheet text_rows
   fill_right i f = record { rows = f.rows ∙ sym (rw (sym e ∙ i) (rows_filter (parameters_of b) xs (accept_filter xs))); room = f.room }
 

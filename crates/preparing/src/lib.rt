@@ -1,7 +1,7 @@
 // Prepare: a sheet and a filter are read, and the rows of the filter are written; the first refusal in the order of the table decides.
 #![tactic(auto)]
 
-ghost use Rattle.std.specs.Prelude.{◌≡◌, length};
+ghost use Rattle.std.specs.Prelude.{◌≡◌, length, Err, Ok};
 ghost use Rattle.sheet.specs.Sheet.{parameters_of, read_sheet};
 ghost use Rattle.syntax.specs.Grammar.{deepest, most_tests};
 ghost use Rattle.place.specs.Machine.{failure};
@@ -9,13 +9,13 @@ ghost use Rattle.refusal.specs.Answers.{refused, number_of, refusal_answer, coun
 ghost use Rattle.answer.specs.Preparing.{FillsText, Fills, Prepares};
 
 use answer::write;
-use block::Validity;
 use checking::outcome;
 use filter::top;
 use place::find_failure;
 use refusal::{Reason, Refusal};
 use row_writer::write_filter;
 use syntax::scan::skip;
+use block::Flaw;
 
 // A refusal as prepare's answer.
 fn refuse(reason: Reason, place: usize) -> Result<usize, Refusal>
@@ -33,7 +33,7 @@ fn no_filter(filter: &[u8]) -> Result<usize, Refusal>
 
 // Writes the rows of a filter on a well-formed sheet into a buffer, which has a cell for each byte of the longest filter.
 fn fill_text(sheet: &[u8], filter: &[u8], buffer: &mut [u32]) -> Result<usize, Refusal>
-    requires sheet_value { read_sheet sheet.now ≡ Validity.WellFormed }
+    requires sheet_value { read_sheet sheet.now ≡ (Ok tt) }
     requires buffer_len { length buffer.old ≡ 1024 }
     ensures { FillsText (parameters_of sheet.now) filter.now result buffer.new }
 {
@@ -70,10 +70,10 @@ pub fn fill(sheet: &[u8], filter: &[u8], buffer: &mut [u32]) -> Result<usize, Re
 {
     let reading = sheet::read_sheet(sheet);
     match reading {
-        Validity::WellFormed => fill_text(sheet, filter, buffer),
-        Validity::WrongSize => refuse(Reason::SheetSize, 0),
-        Validity::WrongSum => refuse(Reason::SheetSum, 0),
-        Validity::WrongLayout => refuse(Reason::SheetLayout, 0),
+        Ok(()) => fill_text(sheet, filter, buffer),
+        Err(Flaw::Size) => refuse(Reason::SheetSize, 0),
+        Err(Flaw::Sum) => refuse(Reason::SheetSum, 0),
+        Err(Flaw::Layout) => refuse(Reason::SheetLayout, 0),
     }
 }
 

@@ -5,6 +5,7 @@
 -- card counts at most once under a parameter and has few values, so what the rows hold stays small, and each step can raise its row
 -- (`steps_ready`).
 -- Assumes nothing.
+use Rattle.std.specs.Prelude.{Ok}
 use Prim.Native.Nat.{ℕ, zero, suc, ◌+◌, ◌*◌, ◌-◌, ◌/◌, ◌%◌, ◌≤◌, ◌<◌}
 use native.Mathlib.Nat.{add-mul-div_left, add-mul-mod_self_left, div-eq_of_lt, mod-eq_of_lt, mod-lt, mod-add-div, div-lt_iff_lt-mul, mul-zero, zero-mul, mul-suc, mul_comm}
 use native.Mathlib.Omega.{arith}
@@ -19,7 +20,6 @@ use Rattle.base.specs.Parts.{part}
 use Rattle.base.specs.Lists.{All, all_empty, all_cons}
 use Rattle.base.proofs.All.{all_head, all_right}
 use Rattle.base.proofs.Tests.{cond-elim}
-use Rattle.block.specs.declared.Validity.TheVariants.{WellFormed}
 use Rattle.card.specs.Card.{Entry, entries_of, read_card}
 use Rattle.judge.specs.Sets.{values_at}
 use Rattle.answer.specs.Operations.{blocks}
@@ -197,7 +197,7 @@ cards_most i (b ∷ bs) =
     let h = cards_most i bs in
     cond-elim (λ (k : ℕ). k ≤ suc (length bs)) (eqb (length (values_at i (entries_of b))) 0) (λ _. omega arith) (λ _. omega arith)
 
-values_under_most : (i : ℕ) {bs : List (List ℕ)} → All (λ (b : List ℕ). read_card b ≡ WellFormed) bs → values_under i (map entries_of bs) ≤ 64 * length bs
+values_under_most : (i : ℕ) {bs : List (List ℕ)} → All (λ (b : List ℕ). read_card b ≡ (Ok tt)) bs → values_under i (map entries_of bs) ≤ 64 * length bs
 unfolding values_under
 values_under_most i all_empty = omega arith
 values_under_most i (all_cons {x = b} {xs = bs} h hs) = omega (arith, card_values_most i b h, values_under_most i hs)
@@ -221,7 +221,7 @@ module _ (cards : List ℕ) (n : ℕ) (rows : List Tally) (room : n ≤ length r
       ∙ pass-adds (map entries_of (blocks c cards)) (entries_of (block_at cards c)) 0 n (drop n rows)
       ∙ ap (λ (es : List (List Entry)). tallies es 0 n ++ drop n rows) (sym (ap (map entries_of) (blocks_snoc c cards) ∙ map-append entries_of (blocks c cards) (block_at cards c ∷ [])))
 
-  module _ (t : ℕ) (size : length cards ≡ 512 * t) (few : t ≤ 128) (all : All (λ (b : List ℕ). read_card b ≡ WellFormed) (blocks t cards)) where
+  module _ (t : ℕ) (size : length cards ≡ 512 * t) (few : t ≤ 128) (all : All (λ (b : List ℕ). read_card b ≡ (Ok tt)) (blocks t cards)) where
     -- the row of a step, as the passes before have left it
     old_row : (i c : ℕ) → i < n → get_or (stepped cards n (i + n * suc c) rows) i (tally 0 0) ≡ tally (cards_with i (map entries_of (blocks c cards))) (values_under i (map entries_of (blocks c cards)))
     old_row i c h =

@@ -16,7 +16,6 @@ use lib.ListN.{length, length-map}
 use borrow.Author.Tests.{le-leb, lt-leb}
 use Rattle.base.specs.Lists.{All}
 use Rattle.base.proofs.All.{bytes_of}
-use Rattle.block.specs.declared.Validity.TheVariants.{WellFormed}
 use Rattle.block.proofs.Items.{items-length}
 use Rattle.sheet.specs.Sheet.{parameter, parameter_count, parameters_of, read_sheet}
 use Rattle.sheet.proofs.Read.{sheet_count}
@@ -50,7 +49,7 @@ module _ (sheet text cards : List ℕ) {y : ℕ} (c : Counted sheet text cards y
   abbrev bs : List (List ℕ)
   bs = c.found_as.blocks
 
-  pub counted_sheet : read_sheet sheet ≡ WellFormed
+  pub counted_sheet : read_sheet sheet ≡ (Ok tt)
   counted_sheet = found_sheet sheet text cards s c.found_as
 
   counted_rows : length s.inputs.parameters ≡ parameter_count sheet
@@ -84,7 +83,7 @@ module _ (sheet text cards list : List ℕ) (sel : Result ℕ Refusal) (exit : L
   unfolding counted_answer
   counted y e = survey-counted sheet text cards y (sym selected ∙ ap counted_answer e)
 
-  pub plan_sheet : (y : ℕ) → sel ≡ Ok y → read_sheet sheet ≡ WellFormed
+  pub plan_sheet : (y : ℕ) → sel ≡ Ok y → read_sheet sheet ≡ (Ok tt)
   plan_sheet y e = counted_sheet sheet text cards (counted y e)
 
   pub plan_within : (y : ℕ) → sel ≡ Ok y → y ≤ length cards / 512
@@ -143,8 +142,8 @@ module _ (sheet text cards list : List ℕ) (sel : Result ℕ Refusal) (exit : L
           let told : reported_answer p.answer ≡ report_answer sheet text cards room = rw (q, found_so l room refl) (ap₂ counts (sym c.yes) others) in
           let total : length cards ≡ 512 * (length cards / 512) = omega (arith, run-size c.found_as.run) in
           let few : length cards / 512 ≤ 128 = omega (arith, counted_total sheet text cards c, c.found_as.run.few) in
-          let right : All (λ (b : List ℕ). read_card b ≡ WellFormed) (blocks (length cards / 512) cards) =
-          subst (All (λ (b : List ℕ). read_card b ≡ WellFormed)) (sym (ap (λ (m : ℕ). blocks m cards) (counted_total sheet text cards c) ∙ run-blocks c.found_as.run))
+          let right : All (λ (b : List ℕ). read_card b ≡ (Ok tt)) (blocks (length cards / 512) cards) =
+          subst (All (λ (b : List ℕ). read_card b ≡ (Ok tt))) (sym (ap (λ (m : ℕ). blocks m cards) (counted_total sheet text cards c) ∙ run-blocks c.found_as.run))
           (found_cards sheet text cards c.survey_of c.found_as)
           in
           record {

@@ -1,5 +1,6 @@
 -- Laws of the steps that raise the rows: one after the other they are passes over the rows, the first clears them, and each other adds a card.
 -- Assumes nothing.
+use Rattle.std.specs.Prelude.{Ok}
 use Prim.Native.Nat.{ℕ, zero, suc, ◌+◌, ◌*◌, ◌/◌, ◌%◌, ◌≤◌, ◌<◌, ◌^◌}
 use native.Mathlib.Nat.{add-zero, add-suc, mod-zero, le-div_iff_mul-le}
 use native.Mathlib.Omega.{arith}
@@ -7,7 +8,6 @@ use mathlib.Core.Path.{◌≡◌, refl, ap, sym, ◌∙◌}
 use mathlib.Core.List.{List}
 use lib.ListN.{length, set, get_or, length-set}
 use borrow.Author.Tests.{lt-ltb, le-ltb}
-use Rattle.block.specs.declared.Validity.TheVariants.{WellFormed}
 use Rattle.card.specs.Card.{read_card}
 use Rattle.report.specs.Tallies.{tally}
 use Rattle.report.specs.Steps.{raise, step_index, step_card, step_tally, stepped, ValuesOf, Small, Raisable}
@@ -69,7 +69,7 @@ module _ (cards : List ℕ) (n j : ℕ) (r : Tally) where
     pub step_fits : 512 * (j / n) < 2 ^ 64
     step_fits = omega (arith, can.inside h, can.short)
 
-    pub step_well_formed : read_card (step_card cards n j) ≡ WellFormed
+    pub step_well_formed : read_card (step_card cards n j) ≡ (Ok tt)
     step_well_formed = can.well_formed h
 
     pub step_row : (v : ℕ) → ValuesOf (step_card cards n j) (j % n) v → Small v r

@@ -15,7 +15,6 @@ use lib.ListN.{length, length-map}
 use borrow.Author.Tests.{le-leb}
 use Rattle.base.specs.Lists.{All}
 use Rattle.base.proofs.All.{all_map}
-use Rattle.block.specs.declared.Validity.TheVariants.{WellFormed}
 use Rattle.sheet.specs.Sheet.{parameters_of, read_sheet}
 use Rattle.card.specs.Card.{read_card}
 use Rattle.syntax.specs.Tree.{tests_of}
@@ -152,11 +151,11 @@ module _ (sheet text cards : List ℕ) where
     passes : Passing sheet text
     passes = passing sheet text (Ok (length (tests_of s.inputs.filter))) (length (tests_of s.inputs.filter)) checked refl
 
-    pub found_sheet : read_sheet sheet ≡ WellFormed
+    pub found_sheet : read_sheet sheet ≡ (Ok tt)
     found_sheet = passes.sheet_well_formed
 
     pub found_parameters : s.inputs.parameters ≡ parameters_of sheet
     found_parameters = let e = f.inputs_accepted in let g = passes.inputs_accepted in cc
 
-    pub found_cards : All (λ (b : List ℕ). read_card b ≡ WellFormed) f.blocks
+    pub found_cards : All (λ (b : List ℕ). read_card b ≡ (Ok tt)) f.blocks
     found_cards = all_map (λ b t. (card_accepted s.inputs.parameters 0 b (card_of b) (t 0)).0) f.accepted

@@ -1,5 +1,6 @@
 -- Laws of a card's values under a parameter: how many there are, entry by entry.
 -- Assumes nothing.
+use Rattle.std.specs.Prelude.{Ok}
 use Prim.Native.Nat.{ℕ, suc, ◌+◌, ◌-◌, ◌≤◌, ◌<◌}
 use native.Mathlib.Omega.{arith}
 use mathlib.Core.Path.{◌≡◌, refl, ap, sym, ◌∙◌}
@@ -12,7 +13,6 @@ use Rattle.std.specs.List.{filter}
 use Rattle.base.specs.Parts.{part}
 use Rattle.base.proofs.Tests.{cond-elim}
 use Rattle.block.specs.Items.{items, ItemStep, Walk}
-use Rattle.block.specs.declared.Validity.TheVariants.{WellFormed}
 use Rattle.block.proofs.Items.{items-length, layout_count}
 use Rattle.card.specs.Card.{Entry, entry, entry_count, entries_of, read_card}
 use Rattle.card.proofs.Entries.{entries_walk}
@@ -32,11 +32,11 @@ values_most i (e ∷ es) =
     cond-elim (λ (vs : List (List ℕ)). length vs ≤ suc (length es)) (eqb e.index i) (λ _. omega arith) (λ _. omega arith)
 
 -- a well-formed card has at most 64
-pub entries_most : (b : List ℕ) → read_card b ≡ WellFormed → length (entries_of b) ≤ 64
+pub entries_most : (b : List ℕ) → read_card b ≡ (Ok tt) → length (entries_of b) ≤ 64
 unfolding entries_of entry_count
 entries_most b h = omega (arith, items-length entry (get_or b 5 0) b 6, layout_count b (get_or b 0 0) 5 64 (card_layout b h))
 
-pub card_values_most : (i : ℕ) (b : List ℕ) → read_card b ≡ WellFormed → length (values_at i (entries_of b)) ≤ 64
+pub card_values_most : (i : ℕ) (b : List ℕ) → read_card b ≡ (Ok tt) → length (values_at i (entries_of b)) ≤ 64
 card_values_most i b h = omega (arith, values_most i (entries_of b), entries_most b h)
 
 -- as many as pass the test of their index

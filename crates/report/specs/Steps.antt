@@ -1,9 +1,8 @@
 -- The steps in which the code raises the rows: step j is about row j % n; the first n steps clear the rows, and each n after them raise
 -- them by one card.
 -- Assumes nothing.
-use Rattle.std.specs.Prelude.{ℕ, zero, suc, ◌+◌, ◌*◌, ◌-◌, ◌/◌, ◌%◌, ◌≤◌, ◌<◌, ◌≡◌, Bool, cond, List, ltb, eqb, length, set, get_or}
+use Rattle.std.specs.Prelude.{ℕ, zero, suc, ◌+◌, ◌*◌, ◌-◌, ◌/◌, ◌%◌, ◌≤◌, ◌<◌, ◌≡◌, Bool, cond, List, ltb, eqb, length, set, get_or, Ok}
 use Rattle.base.specs.Parts.{part}
-use Rattle.block.specs.declared.Validity.{Validity}
 use Rattle.card.specs.Card.{entries_of, read_card}
 use Rattle.judge.specs.Sets.{values_at}
 use Rattle.report.specs.Tallies.{tally}
@@ -49,7 +48,7 @@ pub record Raisable (cards : List ℕ) (n j : ℕ) (r : Tally) : Type 0 where
   pub some : 0 < n
   pub short : length cards ≤ 65536
   pub inside : n ≤ j → 512 * (j / n) ≤ length cards
-  pub well_formed : n ≤ j → read_card (step_card cards n j) ≡ Validity.WellFormed
+  pub well_formed : n ≤ j → read_card (step_card cards n j) ≡ (Ok tt)
   pub few_cards : n ≤ j → r.cards < 128
   pub few_values : n ≤ j → r.values ≤ 8192
 

@@ -1,14 +1,13 @@
 // The rows are raised in steps, one row at each: the first pass over them clears them, and then there is one pass for each card.
-ghost use Rattle.std.specs.Prelude.{◌≡◌, ℕ, ◌<◌, ◌≤◌, ◌%◌};
+ghost use Rattle.std.specs.Prelude.{◌≡◌, ℕ, ◌<◌, ◌≤◌, ◌%◌, Ok};
 ghost use Rattle.card.specs.Card.{read_card};
 ghost use Rattle.report.specs.Steps.{raise, step_index, step_tally, stepped, ValuesOf, Small, Raisable, Ready};
 
 use crate::Tally;
-use block::Validity;
 
 // How many values a well-formed card has under a parameter.
 fn values_of(card: &[u8], index: usize) -> u32
-    requires { read_card card.now ≡ Validity.WellFormed }
+    requires { read_card card.now ≡ (Ok tt) }
     ensures { ValuesOf card.now index result }
 {
     card::entries_of(card)

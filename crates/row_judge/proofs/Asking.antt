@@ -1,5 +1,6 @@
 -- The parameters that rows ask about are kept: those of the rows before i are, and so they stay. What was opened and read is then ready.
 -- Assumes nothing.
+use Rattle.std.specs.Prelude.{Ok}
 use Prim.Native.Nat.{ℕ, ◌+◌, ◌≤◌, ◌<◌}
 use native.Mathlib.Omega.{arith}
 use mathlib.Core.Path.{◌≡◌, refl, ap, sym, ◌∙◌, subst}
@@ -13,7 +14,6 @@ use Rattle.rows.specs.Cells.{row_of}
 use Rattle.rows.specs.declared.Probe.{Probe}
 use Rattle.rows.specs.declared.Row.{Row}
 use Rattle.rows.proofs.Cells.{test_index}
-use Rattle.block.specs.declared.Validity.TheVariants.{WellFormed}
 use Rattle.card.specs.Card.{entries_of, read_card}
 use Rattle.judge.specs.Sets.{Chosen, chosen_of, conforms_to}
 use Rattle.card_reader.specs.Lists.{Lent, kinds_in, KeepsCard, BeginsAlike, ReadsCard}
@@ -74,7 +74,7 @@ lent-on kinds rows before cells spans₀ spans l w a =
 
 -- rows that were opened are ready for a card of which all is kept
 pub lent-ready : (kinds xs rows card cells : List ℕ) (spans : List ℤ) → LentFor kinds rows cells spans → (values : List ℕ) (ends : List ℤ) → length xs ≤ 1024 → Whole rows → Opens kinds xs rows values ends (length rows)
-    → read_card card ≡ WellFormed → KeepsCard card cells spans → Ready xs rows values ends card cells spans
+    → read_card card ≡ (Ok tt) → KeepsCard card cells spans → Ready xs rows values ends card cells spans
 lent-ready kinds xs rows card cells spans l values ends h e o f k =
     record {
       short = h;
@@ -92,7 +92,7 @@ module _ (kinds xs rows card before cells : List ℕ) (spans₀ spans : List ℤ
   read-lent : LentFor kinds rows cells spans
   read-lent = lent-on kinds rows before cells spans₀ spans l w.lent w.begins
 
-  pub read-ready : (values : List ℕ) (ends : List ℤ) → length xs ≤ 1024 → Whole rows → Opens kinds xs rows values ends (length rows) → read_card card ≡ WellFormed → r ≡ true → Ready xs rows values ends card cells spans
+  pub read-ready : (values : List ℕ) (ends : List ℤ) → length xs ≤ 1024 → Whole rows → Opens kinds xs rows values ends (length rows) → read_card card ≡ (Ok tt) → r ≡ true → Ready xs rows values ends card cells spans
   read-ready values ends h e o f y = lent-ready kinds xs rows card cells spans read-lent values ends h e o f (w.keeps y)
 
   pub read-says : (k : Chosen) (t : Bool) → t ≡ rows_say (kinds_in cells) xs (chosen_of k (entries_of card)) rows → t ≡ rows_say kinds xs (chosen_of k (entries_of card)) rows

@@ -4,7 +4,7 @@
 -- verdict of a test after brackets, by the set of the entries that are kept, is found from whether there is an entry that counts and of
 -- whose occurrence the rows in the brackets say yes (`each_is`, from `entry_is`, by induction on the entries).
 -- Assumes nothing.
-use Rattle.std.specs.Prelude.{Option, Some, None}
+use Rattle.std.specs.Prelude.{Option, Some, None, Ok}
 use Prim.Native.Nat.{ℕ, zero, suc, ◌+◌, ◌*◌, ◌-◌, ◌/◌, ◌≤◌, ◌<◌}
 use native.Mathlib.Omega.{arith}
 use mathlib.Core.Path.{◌≡◌, refl, sym, ap, ap₂, subst, ◌∙◌}
@@ -20,7 +20,6 @@ use Rattle.std.proofs.lemmas.Option.{none-some, same_Some}
 use Rattle.base.specs.Parts.{part}
 use Rattle.base.proofs.Parts.{part_length}
 use Rattle.base.proofs.Tests.{and_true, and_false, both_ways}
-use Rattle.block.specs.declared.Validity.TheVariants.{WellFormed}
 use Rattle.card.specs.Card.{Entry, entries_of, read_card}
 use Rattle.syntax.specs.Placed.{PlacedValue}
 use Rattle.syntax.specs.declared.Connective.{Connective}
@@ -303,7 +302,7 @@ module _ (card cells : List ℕ) (spans : List ℤ) (h : KeepsCard card cells sp
   is_kept : IsKept cells i
   is_kept = h.kept i l z
 
-  pub test_chain : read_card card ≡ WellFormed → (from : ℕ) → from ≡ get_or cells i 0 → OnChain card cells i from
+  pub test_chain : read_card card ≡ (Ok tt) → (from : ℕ) → from ≡ get_or cells i 0 → OnChain card cells i from
   test_chain w from e = chain_begins card cells spans h i from w l is_kept e
 
   pub test_opened : (xs : List ℕ) (p : Probe) (c : Option Opened) (o : Opened) → c ≡ opened_for (kinds_in cells) xs p → c ≡ Some o → p.index ≡ i → (k : Chosen) (m : Meaning) (kind from first : ℕ) (r : Bool) → kind ≡ get_or (kinds_in cells) i 0

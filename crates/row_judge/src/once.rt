@@ -1,5 +1,5 @@
 // Rows that are judged on one card alone.
-ghost use Rattle.std.specs.Prelude.{◌≡◌, true, ◌≤◌, length};
+ghost use Rattle.std.specs.Prelude.{◌≡◌, true, ◌≤◌, length, Ok};
 ghost use Rattle.card.specs.Card.{entries_of, read_card};
 ghost use Rattle.judge.specs.Sets.{chosen_of, conforms_to};
 ghost use Rattle.row_opener.specs.Opening.{Opens};
@@ -7,7 +7,6 @@ ghost use Rattle.row_judge.specs.Saying.{rows_say, Whole};
 
 use crate::asks::lend_for;
 use crate::says::rows_say;
-use block::Validity;
 use card_reader::read_entries;
 use judge::Chosen;
 use row_opener::open_rows;
@@ -26,7 +25,7 @@ fn say_opened(
     requires filter_len_bound { length filter.now ≤ 1024 }
     requires whole { Whole rows.now }
     requires opens { Opens kinds.now filter.now rows.now values.now ends.now (length rows.now) }
-    requires card_value { read_card card.now ≡ Validity.WellFormed }
+    requires card_value { read_card card.now ≡ (Ok tt) }
     requires card_value_2 { conforms_to kinds.now (entries_of card.now) ≡ true }
     ensures { result ≡ rows_say kinds.now filter.now (chosen_of chosen (entries_of card.now)) rows.now }
 {
@@ -43,7 +42,7 @@ pub fn say_once(kinds: &[u8], filter: &[u8], rows: &[u32], card: &[u8], chosen: 
     requires filter_len_bound { length filter.now ≤ 1024 }
     requires whole { Whole rows.now }
     requires rows_len_bound { length rows.now ≤ 320 }
-    requires card_value { read_card card.now ≡ Validity.WellFormed }
+    requires card_value { read_card card.now ≡ (Ok tt) }
     requires card_value_2 { conforms_to kinds.now (entries_of card.now) ≡ true }
     ensures { result ≡ rows_say kinds.now filter.now (chosen_of chosen (entries_of card.now)) rows.now }
 {

@@ -1,7 +1,7 @@
 // What rows that were opened say of a card. They are read from left to right with one verdict in hand: a test sets it, not turns it round,
 // and a join whose first part decides it leaves the rows of its second part out; else the second part's verdict is the join's. The rows in
 // a test's brackets are judged for each occurrence by itself. The card was read: a test goes along the entries of its own parameter.
-ghost use Rattle.std.specs.Prelude.{◌≡◌, false, ◌+◌, ◌≤◌, ◌<◌, length, get_or};
+ghost use Rattle.std.specs.Prelude.{◌≡◌, false, ◌+◌, ◌≤◌, ◌<◌, length, get_or, Ok};
 ghost use Rattle.card.specs.Card.{entries_of, read_card};
 ghost use Rattle.syntax.specs.Scan.{decode as decoded};
 ghost use Rattle.judge.specs.Once.{readings_for};
@@ -12,7 +12,6 @@ ghost use Rattle.row_judge.specs.Saying.{probe_says, rows_say, Ready, Bracketed,
 ghost use Rattle.row_opener.specs.Opening.{Known, value_of, opened_for};
 
 use crate::Asked;
-use block::Validity;
 use card_reader::{Question, chain_behind, chain_of, kind_at, next_counting, occurrence_of};
 use judge::{Chosen, some_says};
 use row_opener::{Opened, opened_at};
@@ -101,7 +100,7 @@ fn plain_says(
     value: Option<Opened>,
 ) -> bool
     requires filter_len_bound { length filter.now ≤ 1024 }
-    requires card_value { read_card card.now ≡ Validity.WellFormed }
+    requires card_value { read_card card.now ≡ (Ok tt) }
     requires keeps_card { KeepsCard card.now cells.now spans.now }
     requires index_bound { probe.index < 32 }
     requires index_value { get_or cells.now (544 + probe.index) 0 ≡ 0 }

@@ -1,6 +1,6 @@
 // Reading a filter: its rows are written, its tests are counted, and the first refusal among them is kept. A filter and an item call
 // each other, and the text left and the nesting left fall.
-ghost use Rattle.std.specs.Prelude.{◌≡◌, ◌+◌, ◌≤◌, ◌<◌, length};
+ghost use Rattle.std.specs.Prelude.{◌≡◌, ◌+◌, ◌≤◌, ◌<◌, length, Ok};
 ghost use Rattle.sheet.specs.Sheet.{parameters_of, read_sheet};
 ghost use Rattle.syntax.specs.Placed.{Placed};
 ghost use Rattle.syntax.specs.Scan.{test_of};
@@ -10,7 +10,6 @@ ghost use Rattle.row_writer.specs.Writing.{value_place, index_of, probe_for, Rea
 ghost use Rattle.row_writer.specs.Steps.{Room, Joinable, WroteTest, WroteNot, WroteClosed, WrotePair, WroteMember, WroteJoin, Inside, ChainedAt, WroteItem, WroteFilter, WroteRound, WroteChosen};
 
 use crate::{Outcome, Written};
-use block::Validity;
 use filter::{Spot, Summary, join_summaries, test_summary};
 use judge::test_found;
 use rows::Row;
@@ -41,7 +40,7 @@ fn value_place(filter: &[u8], test: RawTest) -> u32
 
 // The number of a test of the filter, looked up in a bundle.
 fn test_number(sheet: &[u8], bundle: u8, filter: &[u8], test: RawTest) -> u32
-    requires sheet_value { read_sheet sheet.now ≡ Validity.WellFormed }
+    requires sheet_value { read_sheet sheet.now ≡ (Ok tt) }
     requires filter_len_bound { length filter.now ≤ 1024 }
     requires placed { Placed filter.now test }
     requires read { Read filter.now test }
@@ -62,7 +61,7 @@ fn write_test(
     rows: &mut [u32],
     row: usize,
 ) -> Written
-    requires sheet_value { read_sheet sheet.now ≡ Validity.WellFormed }
+    requires sheet_value { read_sheet sheet.now ≡ (Ok tt) }
     requires filter_len_bound { length filter.now ≤ 1024 }
     requires placed { Placed filter.now test }
     requires read { Read filter.now test }
@@ -121,7 +120,7 @@ fn write_round(
     rows: &mut [u32],
     row: usize,
 ) -> Option<Written>
-    requires sheet_value { read_sheet sheet.now ≡ Validity.WellFormed }
+    requires sheet_value { read_sheet sheet.now ≡ (Ok tt) }
     requires room { Room filter.now rows.old row spot.at }
     requires close_value { spot.close ≡ round }
     requires row_lt_at { row < spot.at }
@@ -142,7 +141,7 @@ fn bracket_cell(size: usize) -> u32
 
 // The spot in the square brackets of the bundle whose name begins at a spot and ends at `until`.
 fn inside_of(sheet: &[u8], filter: &[u8], spot: Spot, until: usize) -> Spot
-    requires sheet_value { read_sheet sheet.now ≡ Validity.WellFormed }
+    requires sheet_value { read_sheet sheet.now ≡ (Ok tt) }
     requires at_le_until { spot.at ≤ until }
     requires until_in_bounds { until < length filter.now }
     ensures { Inside (parameters_of sheet.now) filter.now spot until result }
@@ -169,7 +168,7 @@ fn write_pair(
     rows: &mut [u32],
     row: usize,
 ) -> Written
-    requires sheet_value { read_sheet sheet.now ≡ Validity.WellFormed }
+    requires sheet_value { read_sheet sheet.now ≡ (Ok tt) }
     requires filter_len_bound { length filter.now ≤ 1024 }
     requires placed { Placed filter.now test }
     requires read { Read filter.now test }
@@ -203,7 +202,7 @@ fn write_member(
     rows: &mut [u32],
     row: usize,
 ) -> Option<Written>
-    requires sheet_value { read_sheet sheet.now ≡ Validity.WellFormed }
+    requires sheet_value { read_sheet sheet.now ≡ (Ok tt) }
     requires filter_len_bound { length filter.now ≤ 1024 }
     requires end_in_bounds { inner.end ≤ length filter.now }
     requires cells_in_bounds { row + inner.outcome.cells + 1 < length rows.old }
@@ -227,7 +226,7 @@ fn write_chosen(
     rows: &mut [u32],
     row: usize,
 ) -> Option<Written>
-    requires sheet_value { read_sheet sheet.now ≡ Validity.WellFormed }
+    requires sheet_value { read_sheet sheet.now ≡ (Ok tt) }
     requires room { Room filter.now rows.old row spot.at }
     requires at_lt_until { spot.at < until }
     requires until_in_bounds { until < length filter.now }
@@ -248,7 +247,7 @@ fn write_item(
     rows: &mut [u32],
     row: usize,
 ) -> Option<Written>
-    requires sheet_value { read_sheet sheet.now ≡ Validity.WellFormed }
+    requires sheet_value { read_sheet sheet.now ≡ (Ok tt) }
     requires room { Room filter.now rows.old row spot.at }
     ensures { WroteItem sheet.now filter.now spot row result rows.old rows.new }
 {
@@ -329,7 +328,7 @@ fn write_rest(
     row: usize,
     first: Written,
 ) -> Option<Written>
-    requires sheet_value { read_sheet sheet.now ≡ Validity.WellFormed }
+    requires sheet_value { read_sheet sheet.now ≡ (Ok tt) }
     requires chained_at { ChainedAt sheet.now filter.now spot row rows.old first.end first.outcome rows.old }
     ensures { WroteFilter sheet.now filter.now spot row result rows.old rows.new }
 {
@@ -357,7 +356,7 @@ pub fn write_filter(
     rows: &mut [u32],
     row: usize,
 ) -> Option<Written>
-    requires sheet_value { read_sheet sheet.now ≡ Validity.WellFormed }
+    requires sheet_value { read_sheet sheet.now ≡ (Ok tt) }
     requires room { Room filter.now rows.old row spot.at }
     ensures { WroteFilter sheet.now filter.now spot row result rows.old rows.new }
 {

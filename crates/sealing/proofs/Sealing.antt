@@ -19,7 +19,6 @@ use Rattle.refusal.specs.declared.Reason.{Reason}
 use Rattle.block.specs.Words.{word, word_bytes}
 use Rattle.block.specs.Sum.{check_sum, sum_from}
 use Rattle.block.specs.Seal.{seal, check}
-use Rattle.block.specs.declared.Integrity.TheVariants.{Sealed}
 use Rattle.block.proofs.Seal.{check_iff, seal_sealed}
 use Rattle.sealing.specs.Sealing.{seal_answer, sealed_bytes, record_answer}
 use Rattle.refusal.specs.declared.Refusal.{Refusal}
@@ -88,7 +87,7 @@ module _ (b : List ℕ) where
     seal_keeps = rw (eq-eqb (length b) 512 h, body-padded) (take_at (take 508 b) (word_bytes (sum_from 1 (take 508 b))) 508 body-length)
 
     -- a block that was sealed has the size and the check sum that every operation asks for
-    pub seal-passes : Bytes b → check (sealed_bytes b) ≡ Sealed
+    pub seal-passes : Bytes b → check (sealed_bytes b) ≡ (Ok tt)
     unfolding sealed_bytes
     seal-passes all =
         let room : length (take 508 b) ≤ 508 = omega (arith, body-length) in

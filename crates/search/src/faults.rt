@@ -1,5 +1,5 @@
 // What is decided of an alternative on a sheet, whatever the card.
-ghost use Rattle.std.specs.Prelude.{◌≡◌, cond, eqb, length};
+ghost use Rattle.std.specs.Prelude.{◌≡◌, cond, eqb, length, Ok};
 ghost use Rattle.base.specs.Kinds.{bundle_kind};
 ghost use Rattle.sheet.specs.Sheet.{parameters_of, read_sheet};
 ghost use Rattle.sheet.specs.Find.{find};
@@ -9,7 +9,6 @@ ghost use Rattle.query.specs.Rows.{alternative_in, alternatives_in, RowWithin, R
 
 use crate::asked::asked_of;
 use base::kind::{BUNDLE, TOKEN};
-use block::Validity;
 use query::{Row, Rows};
 use refusal::{Reason, Refusal, refuse};
 use sheet::Found;
@@ -47,7 +46,7 @@ fn fault_at(
     text: &[u8],
     place: usize,
 ) -> Result<(), Refusal>
-    requires { read_sheet sheet.now ≡ Validity.WellFormed }
+    requires { read_sheet sheet.now ≡ (Ok tt) }
     ensures { result ≡ fault_at (find 0 name.now (parameters_of sheet.now)) split text.now place }
 {
     match sheet::find(sheet, 0, name) {
@@ -58,7 +57,7 @@ fn fault_at(
 
 // What is decided of the alternative that a row keeps.
 fn row_fault(sheet: &[u8], bytes: &[u8], row: Row) -> Result<(), Refusal>
-    requires sheet_value { read_sheet sheet.now ≡ Validity.WellFormed }
+    requires sheet_value { read_sheet sheet.now ≡ (Ok tt) }
     requires row_within { RowWithin (length bytes.now) row }
     ensures { result ≡ alternative_fault (parameters_of sheet.now) (alternative_in bytes.now row) }
 {
@@ -77,7 +76,7 @@ fn row_fault(sheet: &[u8], bytes: &[u8], row: Row) -> Result<(), Refusal>
 
 // What the first alternative of a query that is refused comes to: the first byte of its pair is its place.
 pub fn first_fault(sheet: &[u8], bytes: &[u8], rows: Rows) -> Result<(), Refusal>
-    requires sheet_value { read_sheet sheet.now ≡ Validity.WellFormed }
+    requires sheet_value { read_sheet sheet.now ≡ (Ok tt) }
     requires rows_within { RowsWithin (length bytes.now) rows }
     ensures { result ≡ first_alternative_fault (parameters_of sheet.now) (alternatives_in bytes.now rows) }
 {

@@ -1,5 +1,5 @@
 // What a query says of a card: pairs, all to be met, each by some alternative.
-ghost use Rattle.std.specs.Prelude.{◌≡◌, not, ◌&&◌, ◌||◌, length};
+ghost use Rattle.std.specs.Prelude.{◌≡◌, not, ◌&&◌, ◌||◌, length, Ok};
 ghost use Rattle.token.specs.Match.{matches_at};
 ghost use Rattle.sheet.specs.Sheet.{parameters_of, read_sheet};
 ghost use Rattle.sheet.specs.Find.{find};
@@ -11,13 +11,12 @@ ghost use Rattle.query.specs.Rows.{alternative_in, rows_say, RowWithin, RowsWith
 
 use crate::asked::asked_of;
 use base::kind::TOKEN;
-use block::Validity;
 use judge::Chosen;
 use query::{Row, Rows};
 
 // Whether some text under a parameter is a token that is asked for.
 fn some_token(card: &[u8], index: u8, split: usize, asked: &[u8]) -> bool
-    requires { read_card card.now ≡ Validity.WellFormed }
+    requires { read_card card.now ≡ (Ok tt) }
     ensures { result ≡ some_value (λ x. matches_at x split asked.now) (values_at index (entries_of card.now)) }
 {
     card::entries_of(card).any(|e| e.tag == index && token::matches_at(e.text, split, asked))
@@ -25,7 +24,7 @@ fn some_token(card: &[u8], index: u8, split: usize, asked: &[u8]) -> bool
 
 // What a text says of the texts under a parameter of a kind.
 fn text_says(card: &[u8], index: u8, kind: u8, split: usize, text: &[u8]) -> bool
-    requires { read_card card.now ≡ Validity.WellFormed }
+    requires { read_card card.now ≡ (Ok tt) }
     ensures { result ≡ text_says kind split text.now (values_at index (entries_of card.now)) }
 {
     if kind == TOKEN {
@@ -45,8 +44,8 @@ fn text_says(card: &[u8], index: u8, kind: u8, split: usize, text: &[u8]) -> boo
 
 // What a text under a name says of a well-formed card.
 fn says_at(sheet: &[u8], card: &[u8], name: &[u8], split: usize, text: &[u8]) -> bool
-    requires sheet_value { read_sheet sheet.now ≡ Validity.WellFormed }
-    requires card_value { read_card card.now ≡ Validity.WellFormed }
+    requires sheet_value { read_sheet sheet.now ≡ (Ok tt) }
+    requires card_value { read_card card.now ≡ (Ok tt) }
     ensures { result ≡ says_at (find 0 name.now (parameters_of sheet.now)) split text.now (entries_of card.now) }
 {
     match sheet::find(sheet, 0, name) {
@@ -57,8 +56,8 @@ fn says_at(sheet: &[u8], card: &[u8], name: &[u8], split: usize, text: &[u8]) ->
 
 // What the alternative that a row keeps says, or true where its pair is met already.
 fn row_says(met: bool, sheet: &[u8], card: &[u8], bytes: &[u8], row: Row) -> bool
-    requires sheet_value { read_sheet sheet.now ≡ Validity.WellFormed }
-    requires card_value { read_card card.now ≡ Validity.WellFormed }
+    requires sheet_value { read_sheet sheet.now ≡ (Ok tt) }
+    requires card_value { read_card card.now ≡ (Ok tt) }
     requires row_within { RowWithin (length bytes.now) row }
     ensures { result ≡ (met || alternative_says (parameters_of sheet.now) (entries_of card.now) (alternative_in bytes.now row)) }
 {
@@ -100,8 +99,8 @@ fn carried(last: bool, said: bool) -> bool
 
 // What the query that rows keep says of a well-formed card.
 pub fn rows_say(sheet: &[u8], card: &[u8], bytes: &[u8], rows: Rows) -> bool
-    requires sheet_value { read_sheet sheet.now ≡ Validity.WellFormed }
-    requires card_value { read_card card.now ≡ Validity.WellFormed }
+    requires sheet_value { read_sheet sheet.now ≡ (Ok tt) }
+    requires card_value { read_card card.now ≡ (Ok tt) }
     requires rows_within { RowsWithin (length bytes.now) rows }
     ensures { result ≡ rows_say (alternative_says (parameters_of sheet.now) (entries_of card.now)) bytes.now rows }
 {

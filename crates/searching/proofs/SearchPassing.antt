@@ -12,7 +12,6 @@ use mathlib.Core.Path.{◌≡◌, refl, ap, sym, ◌∙◌, fun_ext, subst}
 use mathlib.Core.Bool.{Bool}
 use mathlib.Core.List.{List}
 use lib.ListN.{length}
-use Rattle.block.specs.declared.Validity.{Validity}
 use Rattle.sheet.specs.Sheet.{Parameter, parameters_of, read_sheet}
 use Rattle.card.specs.Card.{Entry}
 use Rattle.query.specs.Spelling.{Query, alternatives_of}
@@ -31,8 +30,9 @@ use Rattle.answer.proofs.Passing.{match_stopped}
 use Rattle.one_card.proofs.Judging.{match_answered}
 use Rattle.one_card.specs.OneCard.{verdict_step, verdict_answer}
 use Rattle.refusal.specs.declared.Reason.{Reason}
+use Rattle.block.specs.declared.Flaw.{Flaw}
 
-pub sheet_known : (sheet : List ℕ) (r : Validity) → r ≡ read_sheet sheet → r ≡ Validity.WellFormed → read_sheet sheet ≡ Validity.WellFormed
+pub sheet_known : (sheet : List ℕ) (r : Result ⊤ Flaw) → r ≡ read_sheet sheet → r ≡ (Ok tt) → read_sheet sheet ≡ (Ok tt)
 sheet_known sheet r e h = sym e ∙ h
 
 -- ---- a string that is refused: no count, so that nothing is asked of the rows
@@ -47,21 +47,21 @@ module _ (sheet text bytes : List ℕ) where
   refuses x e = record { answers = sym (unfold check_search_answer in rw e); passes = λ rows t. absurd (let z : ◌≡◌ {A = ℕ} 0 1 = cc in omega arith) }
 
   -- the sheet is refused
-  sheet_refuses : (r k : Validity) (x : Refusal) → ((ps : List Parameter) → sheet_step k ps ≡ stop (number_of x.reason) x.place) → r ≡ read_sheet sheet → r ≡ k → ReadsRows sheet text bytes (Err x)
+  sheet_refuses : (r k : Result ⊤ Flaw) (x : Refusal) → ((ps : List Parameter) → sheet_step k ps ≡ stop (number_of x.reason) x.place) → r ≡ read_sheet sheet → r ≡ k → ReadsRows sheet text bytes (Err x)
   sheet_refuses r k x t e i = refuses x (unfold accept_query_inputs accept_sheet in rw (sym e ∙ i, t (parameters_of sheet)))
 
-  module _ (r : Validity) (e : r ≡ read_sheet sheet) where
-    pub sheet_size : r ≡ Validity.WrongSize → ReadsRows sheet text bytes (Err (record { reason = Reason.SheetSize; place = 0 }))
-    sheet_size = sheet_refuses r Validity.WrongSize (record { reason = Reason.SheetSize; place = 0 }) (λ ps. refl) e
+  module _ (r : Result ⊤ Flaw) (e : r ≡ read_sheet sheet) where
+    pub sheet_size : r ≡ (Err Flaw.Size) → ReadsRows sheet text bytes (Err (record { reason = Reason.SheetSize; place = 0 }))
+    sheet_size = sheet_refuses r (Err Flaw.Size) (record { reason = Reason.SheetSize; place = 0 }) (λ ps. refl) e
 
-    pub sheet_sum : r ≡ Validity.WrongSum → ReadsRows sheet text bytes (Err (record { reason = Reason.SheetSum; place = 0 }))
-    sheet_sum = sheet_refuses r Validity.WrongSum (record { reason = Reason.SheetSum; place = 0 }) (λ ps. refl) e
+    pub sheet_sum : r ≡ (Err Flaw.Sum) → ReadsRows sheet text bytes (Err (record { reason = Reason.SheetSum; place = 0 }))
+    sheet_sum = sheet_refuses r (Err Flaw.Sum) (record { reason = Reason.SheetSum; place = 0 }) (λ ps. refl) e
 
-    pub sheet_layout_lem : r ≡ Validity.WrongLayout → ReadsRows sheet text bytes (Err (record { reason = Reason.SheetLayout; place = 0 }))
-    sheet_layout_lem = sheet_refuses r Validity.WrongLayout (record { reason = Reason.SheetLayout; place = 0 }) (λ ps. refl) e
+    pub sheet_layout_lem : r ≡ (Err Flaw.Layout) → ReadsRows sheet text bytes (Err (record { reason = Reason.SheetLayout; place = 0 }))
+    sheet_layout_lem = sheet_refuses r (Err Flaw.Layout) (record { reason = Reason.SheetLayout; place = 0 }) (λ ps. refl) e
 
 -- the string is refused, as the definition refuses it
-pub text_refuses : (sheet text bytes : List ℕ) → read_sheet sheet ≡ Validity.WellFormed → (r : Result Rows Refusal) (x : Refusal) → AcceptsQuery text bytes r → r ≡ Err x → ReadsRows sheet text bytes (Err x)
+pub text_refuses : (sheet text bytes : List ℕ) → read_sheet sheet ≡ (Ok tt) → (r : Result Rows Refusal) (x : Refusal) → AcceptsQuery text bytes r → r ≡ Err x → ReadsRows sheet text bytes (Err x)
 unfolding accept_query_inputs accept_sheet
 text_refuses sheet text bytes w r x t o = refuses sheet text bytes x (rw (w, accepted_refused x t o))
 
@@ -70,7 +70,7 @@ text_refuses sheet text bytes w r x t o = refuses sheet text bytes x (rw (w, acc
 pub accepted_within : (text bytes : List ℕ) (r : Result Rows Refusal) (rows : Rows) → AcceptsQuery text bytes r → r ≡ Ok rows → RowsWithin (length bytes) rows
 accepted_within text bytes r rows t o = (accepted_rows rows t o).1.within
 
-module _ (sheet text bytes : List ℕ) (w : read_sheet sheet ≡ Validity.WellFormed) (rows : Rows) (q : Query) (of : RowsOf text bytes rows q) where
+module _ (sheet text bytes : List ℕ) (w : read_sheet sheet ≡ (Ok tt)) (rows : Rows) (q : Query) (of : RowsOf text bytes rows q) where
   abbrev ps : List Parameter
   ps = parameters_of sheet
 
@@ -133,7 +133,7 @@ passed_same : (f : Result ⊤ Refusal) (rows kept : Rows) → rows_passed f rows
 passed_same (Ok tt) rows kept e = cc
 passed_same (Err r) rows kept e = absurd (let z : ◌≡◌ {A = ℕ} 0 1 = cc in omega arith)
 
-pub rows_read : (sheet text bytes : List ℕ) → read_sheet sheet ≡ Validity.WellFormed → (r : Result Rows Refusal) (rows : Rows) → AcceptsQuery text bytes r → r ≡ Ok rows
+pub rows_read : (sheet text bytes : List ℕ) → read_sheet sheet ≡ (Ok tt) → (r : Result Rows Refusal) (rows : Rows) → AcceptsQuery text bytes r → r ≡ Ok rows
     → (s : Result Rows Refusal) → PassesRows (parameters_of sheet) bytes rows s → ReadsRows sheet text bytes s
 unfolding rows_answer
 rows_read sheet text bytes w r rows t o s e =
@@ -174,7 +174,7 @@ module _ (sheet text bytes : List ℕ) (r : Result Rows Refusal) (read : ReadsRo
   rows_refused f h = sym (ap (λ (x : Result Rows Refusal). counted_answer (counted_rows x)) h) ∙ read.answers
 
   module _ (rows : Rows) (h : r ≡ Ok rows) where
-    pub passed_sheet : read_sheet sheet ≡ Validity.WellFormed
+    pub passed_sheet : read_sheet sheet ≡ (Ok tt)
     passed_sheet = (read.passes rows h).sheet_well_formed
 
     pub passed_within : RowsWithin (length bytes) rows

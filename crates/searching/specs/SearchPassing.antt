@@ -1,7 +1,6 @@
 -- What the parts of the code for search strings answer: a string read into rows, and what the rows ask.
 -- Assumes nothing.
 use Rattle.std.specs.Prelude.{ℕ, ◌≡◌, List, length, Result, Ok, Err, ⊤}
-use Rattle.block.specs.declared.Validity.{Validity}
 use Rattle.sheet.specs.Sheet.{Parameter, parameters_of, read_sheet}
 use Rattle.search.specs.Meaning.{first_alternative_fault, alternative_says}
 use Rattle.query.specs.Rows.{RowsWithin, alternatives_in, rows_say}
@@ -23,7 +22,7 @@ rows_question ps bytes rows = record { parameters = ps; says = λ es. rows_say (
 
 -- check has passed the sheet and the text, whose query the rows keep
 pub record PassingRows (sheet text bytes : List ℕ) (rows : Rows) : Type 0 where
-  pub sheet_well_formed : read_sheet sheet ≡ Validity.WellFormed
+  pub sheet_well_formed : read_sheet sheet ≡ (Ok tt)
   pub within : RowsWithin (length bytes) rows
   pub asked : search_question sheet text ≡ found (rows_question (parameters_of sheet) bytes rows)
 

@@ -1,7 +1,7 @@
 // Check and match by a search string. Its alternatives are kept in rows over a buffer of decoded bytes, once for all cards.
 #![tactic(auto)]
 
-ghost use Rattle.std.specs.Prelude.{◌≡◌, ℕ, ◌≤◌, length};
+ghost use Rattle.std.specs.Prelude.{◌≡◌, ℕ, ◌≤◌, length, Err, Ok};
 ghost use Rattle.sheet.specs.Sheet.{parameters_of, read_sheet};
 ghost use Rattle.sheet.specs.Find.{kinds_of};
 ghost use Rattle.query.specs.Rows.{RowsWithin};
@@ -11,15 +11,15 @@ ghost use Rattle.answer.specs.Searching.{check_search_answer, match_search_answe
 ghost use Rattle.searching.specs.SearchPassing.{rows_question, PassesRows, ReadsRows};
 ghost use Rattle.refusal.specs.Answers.{counted_answer, matched_answer};
 
-use block::Validity;
 use one_card::{accept_card, answered};
 use query::{Rows, accept_query};
 use refusal::{Reason, Refusal};
 use search::{first_fault, rows_say};
+use block::Flaw;
 
 // Passes the rows of a search string on a well-formed sheet, where none of their alternatives is refused.
 fn check_rows(sheet: &[u8], bytes: &[u8], rows: Rows) -> Result<Rows, Refusal>
-    requires sheet_value { read_sheet sheet.now ≡ Validity.WellFormed }
+    requires sheet_value { read_sheet sheet.now ≡ (Ok tt) }
     requires rows_within { RowsWithin (length bytes.now) rows }
     ensures { PassesRows (parameters_of sheet.now) bytes.now rows result }
 {
@@ -29,7 +29,7 @@ fn check_rows(sheet: &[u8], bytes: &[u8], rows: Rows) -> Result<Rows, Refusal>
 
 // A search string on a well-formed sheet.
 fn read_text(sheet: &[u8], text: &[u8], bytes: &mut [u8]) -> Result<Rows, Refusal>
-    requires sheet_value { read_sheet sheet.now ≡ Validity.WellFormed }
+    requires sheet_value { read_sheet sheet.now ≡ (Ok tt) }
     requires in_bounds { 1024 ≤ length bytes.old }
     ensures { ReadsRows sheet.now text.now bytes.new result }
 {
@@ -44,16 +44,16 @@ pub fn read_search(sheet: &[u8], text: &[u8], bytes: &mut [u8]) -> Result<Rows, 
 {
     let reading = sheet::read_sheet(sheet);
     match reading {
-        Validity::WellFormed => read_text(sheet, text, bytes),
-        Validity::WrongSize => Err(Refusal {
+        Ok(()) => read_text(sheet, text, bytes),
+        Err(Flaw::Size) => Err(Refusal {
             reason: Reason::SheetSize,
             place: 0,
         }),
-        Validity::WrongSum => Err(Refusal {
+        Err(Flaw::Sum) => Err(Refusal {
             reason: Reason::SheetSum,
             place: 0,
         }),
-        Validity::WrongLayout => Err(Refusal {
+        Err(Flaw::Layout) => Err(Refusal {
             reason: Reason::SheetLayout,
             place: 0,
         }),
@@ -77,7 +77,7 @@ pub fn judge_by_search(
     rows: Rows,
     card: &[u8],
 ) -> Result<bool, Reason>
-    requires sheet_value { read_sheet sheet.now ≡ Validity.WellFormed }
+    requires sheet_value { read_sheet sheet.now ≡ (Ok tt) }
     requires kinds_value { kinds.now ≡ kinds_of (parameters_of sheet.now) }
     requires rows_within { RowsWithin (length bytes.now) rows }
     ensures { (i : ℕ) → verdict_step result i ≡ card_verdict (rows_question (parameters_of sheet.now) bytes.now rows) i card.now }

@@ -17,7 +17,6 @@ use mathlib.Core.List.{List, [], ◌∷◌, ◌++◌, append_assoc, append-nil}
 use lib.ListN.{length, take, drop, set, length-set}
 use lib.Seq.{take-suc-set, drop-drop}
 use Rattle.base.specs.Parts.{part}
-use Rattle.block.specs.declared.Validity.{Validity}
 use Rattle.card.specs.Card.{record_number, read_card}
 use Rattle.refusal.specs.declared.Refusal.{Refusal}
 use Rattle.refusal.specs.Steps.{Step, found, stop, ◌>>=◌}
@@ -31,7 +30,7 @@ use Rattle.refusal.specs.declared.Reason.{Reason}
 
 -- ---- a card that has a verdict is well formed
 
-judged_well_formed : (q : Question) (b : List ℕ) (y : Bool) → card_verdict q 0 b ≡ found y → read_card b ≡ Validity.WellFormed
+judged_well_formed : (q : Question) (b : List ℕ) (y : Bool) → card_verdict q 0 b ≡ found y → read_card b ≡ (Ok tt)
 unfolding card_verdict
 judged_well_formed q b y h =
     let (c, t, says) = bind_found (accept_card q.parameters 0 b) (λ c. found (q.says c.entries)) y h in
@@ -102,7 +101,7 @@ module _ (q : Question) (cards : List ℕ) where
     pub gathering_more : at < length cards → Fits w64 (count + 1)
     gathering_more h = record { fits = omega (arith, gathering_room h, g.short) }
 
-    pub gathering_well_formed : (b : List ℕ) (v : Result Bool Reason) → ((i : ℕ) → verdict_step v i ≡ card_verdict q i b) → (y : Bool) → v ≡ Ok y → read_card b ≡ Validity.WellFormed
+    pub gathering_well_formed : (b : List ℕ) (v : Result Bool Reason) → ((i : ℕ) → verdict_step v i ≡ card_verdict q i b) → (y : Bool) → v ≡ Ok y → read_card b ≡ (Ok tt)
     gathering_well_formed b v e y s = judged_well_formed q b y (sym (e 0) ∙ ap (λ (w : Result Bool Reason). verdict_step w 0) s)
 
     module _ (h : at < length cards) (v : Result Bool Reason) (e : (i : ℕ) → verdict_step v i ≡ card_verdict q i (part cards at (at + 512))) where

@@ -9,7 +9,6 @@ use mathlib.Core.Bool.{Bool, true}
 use mathlib.Core.List.{List}
 use lib.ListN.{length, take}
 use Rattle.base.specs.Parts.{part}
-use Rattle.block.specs.declared.Validity.{Validity}
 use Rattle.sheet.specs.Sheet.{Parameter, parameters_of, read_sheet}
 use Rattle.sheet.specs.Find.{kinds_of, parents_of}
 use Rattle.sheet.specs.Encode.{WellFormedSheet}
@@ -117,7 +116,7 @@ module _ (sheet text buffer : List ℕ) (r : Result ℕ Refusal) (e : Fills shee
     pub filled_room : n ≤ length buffer
     filled_room = e.room n h
 
-    pub filled_sheet : read_sheet sheet ≡ Validity.WellFormed
+    pub filled_sheet : read_sheet sheet ≡ (Ok tt)
     filled_sheet = passed.sheet_well_formed
 
     pub filled_short : length text ≤ 1024

@@ -1,7 +1,6 @@
 -- What holds of a question to the cards of a run, so that each can be judged: the kinds are those of the sheet, and check has passed it.
 -- Assumes nothing.
-use Rattle.std.specs.Prelude.{ℕ, ◌≡◌, ◌≤◌, List, ℤ, length}
-use Rattle.block.specs.declared.Validity.{Validity}
+use Rattle.std.specs.Prelude.{ℕ, ◌≡◌, ◌≤◌, List, ℤ, length, Ok}
 use Rattle.sheet.specs.Sheet.{parameters_of, read_sheet}
 use Rattle.sheet.specs.Find.{kinds_of}
 use Rattle.row_judge.specs.Saying.{Whole}
@@ -28,5 +27,5 @@ pub record TextReady (sheet kinds filter : List ℕ) : Type 0 where
 -- by the rows of a search string over its decoded bytes
 pub record SearchReady (sheet kinds bytes : List ℕ) (rows : Rows) : Type 0 where
   pub kinds_are : kinds ≡ kinds_of (parameters_of sheet)
-  pub well_formed : read_sheet sheet ≡ Validity.WellFormed
+  pub well_formed : read_sheet sheet ≡ (Ok tt)
   pub within : RowsWithin (length bytes) rows

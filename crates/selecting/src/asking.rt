@@ -1,5 +1,5 @@
 // What is asked of each card of a run: by the rows of a filter, by a filter's text, or by the rows of a search string.
-ghost use Rattle.std.specs.Prelude.{◌≡◌, ℕ, ◌≤◌, length};
+ghost use Rattle.std.specs.Prelude.{◌≡◌, ℕ, ◌≤◌, length, Ok};
 ghost use Rattle.sheet.specs.Sheet.{parameters_of, read_sheet};
 ghost use Rattle.syntax.specs.Reader.{read};
 ghost use Rattle.query.specs.Rows.{RowsWithin};
@@ -10,7 +10,6 @@ ghost use Rattle.one_card.specs.OneCard.{verdict_step, cells_question};
 ghost use Rattle.searching.specs.SearchPassing.{rows_question};
 ghost use Rattle.selecting.specs.Asking.{RowsReady, TextReady, SearchReady};
 
-use block::Validity;
 use one_card::{judge_by_rows, judge_by_text};
 use query::Rows;
 use refusal::Reason;
@@ -48,7 +47,7 @@ pub struct ByRows<'a> {
 
 impl<'a> ByRows<'a> {
     pub fn new(sheet: &'a [u8], text: &'a [u8], rows: &'a [u32]) -> Self
-        requires sheet_value { read_sheet sheet.now ≡ Validity.WellFormed }
+        requires sheet_value { read_sheet sheet.now ≡ (Ok tt) }
         requires text_len_bound { length text.now ≤ 1024 }
         requires whole { Whole rows.now }
         requires rows_len_bound { length rows.now ≤ 320 }
@@ -138,7 +137,7 @@ pub struct BySearch<'a> {
 
 impl<'a> BySearch<'a> {
     pub fn new(sheet: &'a [u8], bytes: &'a [u8], rows: Rows) -> Self
-        requires sheet_value { read_sheet sheet.now ≡ Validity.WellFormed }
+        requires sheet_value { read_sheet sheet.now ≡ (Ok tt) }
         requires rows_within { RowsWithin (length bytes.now) rows }
         ensures ready { SearchReady sheet.now result.kinds bytes.now rows }
         ensures parts { (result.sheet.now ≡ sheet.now) × (result.bytes.now ≡ bytes.now) × (result.rows ≡ rows) }

@@ -5,7 +5,7 @@
 -- parameter's kind is found at its index (`listed_kind`). A table of 32 cells is the list with zeros behind it, so its cells give the same
 -- (`table_kind`, `table_listed`).
 -- Assumes nothing.
-use Rattle.std.specs.Prelude.{Option, None, Some}
+use Rattle.std.specs.Prelude.{Option, None, Some, Ok}
 use Prim.Native.Nat.{ℕ, zero, suc, ◌+◌, ◌-◌, ◌<◌}
 use native.Mathlib.Nat.{add-zero}
 use native.Mathlib.Omega.{arith}
@@ -20,7 +20,6 @@ use Rattle.base.specs.Lists.{Listed, All, all_empty, all_cons, equal}
 use Rattle.base.proofs.Tests.{and_left, and_right}
 use Rattle.base.proofs.All.{all_head, all_right}
 use Rattle.base.proofs.Lists.{equal-same, equal_refl}
-use Rattle.block.specs.declared.Validity.TheVariants.{WellFormed}
 use Rattle.base.specs.Parts.{padded}
 use Rattle.base.proofs.Lists.{listed_first, listed_later}
 use Rattle.sheet.specs.Sheet.{Parameter, parameter, kind_at, parameters_of, read_sheet}
@@ -142,7 +141,7 @@ table_listed of ps i q l = ap₂ (λ (j : ℕ) (qs : List Parameter). get_or (ta
     go n (p ∷ before) = go n before
 
 -- an index that is found is below 32, so that it can be raised
-pub find_below : (b : List ℕ) → read_sheet b ≡ WellFormed → (c : ℕ) (n : List ℕ) (f : Option Found) → f ≡ find c n (parameters_of b) → (x : Found) → f ≡ Some x → x.index + 1 < 256
+pub find_below : (b : List ℕ) → read_sheet b ≡ (Ok tt) → (c : ℕ) (n : List ℕ) (f : Option Found) → f ≡ find c n (parameters_of b) → (x : Found) → f ≡ Some x → x.index + 1 < 256
 unfolding find
 find_below b h c n f e x g =
     let r = found_listed 0 c n (parameters_of b) x.index x.kind (sym e ∙ g) in

@@ -1,5 +1,6 @@
 -- Laws of reading a sheet: what the code's tests decide, and what holds of bytes that read as a well-formed sheet.
 -- Assumes nothing.
+use Rattle.std.specs.Prelude.{Ok}
 use Prim.Native.Nat.{ℕ, ◌≤◌}
 use native.Mathlib.Omega.{arith}
 use mathlib.Core.Path.{◌≡◌, refl, sym, ◌∙◌}
@@ -9,7 +10,6 @@ use lib.ListN.{length, get_or}
 use Rattle.base.specs.Bytes.{Bytes}
 use Rattle.base.proofs.Tests.{and_left, and_right}
 use Rattle.block.specs.Items.{has_marks, has_layout, has_either, items, Walk}
-use Rattle.block.specs.declared.Validity.TheVariants.{WellFormed}
 use Rattle.block.proofs.Contents.{Held}
 use Rattle.block.proofs.Items.{either_own, either_form, layout_count, items-length, walk_start}
 use Rattle.block.proofs.Readings.{reading_iff}
@@ -34,7 +34,7 @@ module _ (b : List ℕ) (r : Bool) (e : r ≡ has_either 0x50 0x51 1 32 b) where
 
 -- ---- what a well-formed sheet has
 
-module _ (b : List ℕ) (h : read_sheet b ≡ WellFormed) where
+module _ (b : List ℕ) (h : read_sheet b ≡ (Ok tt)) where
   pub sheet_length : length b ≡ 512
   unfolding read_sheet
   sheet_length = ((reading_iff b (sheet_layout b)).0 h).0.size
@@ -84,5 +84,5 @@ module _ (b : List ℕ) (h : read_sheet b ≡ WellFormed) where
   sheet_held bytes = record { bytes = bytes; sealed = ((reading_iff b (sheet_layout b)).0 h).0; layout = block_layout; same = refl }
 
 -- a walk over the parameters can start
-pub sheet_walk : (b : List ℕ) → read_sheet b ≡ WellFormed → Walk b 2 (get_or b 1 0)
+pub sheet_walk : (b : List ℕ) → read_sheet b ≡ (Ok tt) → Walk b 2 (get_or b 1 0)
 sheet_walk b h = walk_start b (get_or b 0 0) 1 32 (block_layout b h) (sheet_length b h) (omega arith)

@@ -1,5 +1,6 @@
 -- A sheet is written and read back, and read and written back.
 -- Assumes nothing.
+use Rattle.std.specs.Prelude.{Ok}
 use Prim.Native.Nat.{ℕ, ◌≤◌}
 use native.Mathlib.Omega.{arith}
 use mathlib.Core.Path.{◌≡◌, refl, ap, sym, ◌∙◌, subst}
@@ -11,7 +12,6 @@ use Rattle.base.specs.Bytes.{Byte, Bytes}
 use Rattle.base.specs.Lists.{All, all_empty, all_cons}
 use Rattle.base.proofs.All.{all_map, all_every, all_both}
 use Rattle.base.proofs.Names.{name-bytes}
-use Rattle.block.specs.declared.Validity.TheVariants.{WellFormed}
 use Rattle.block.proofs.Contents.{Held, Written}
 use Rattle.block.proofs.Readings.{reading_iff}
 use Rattle.block.proofs.RoundTrip.{held, unmarked, written}
@@ -108,7 +108,7 @@ module _ (w : Bool) (ps : List Parameter) (h : WellFormedSheet ps) (g : SheetFor
 
 -- ---- read and written back
 
-pub sheet_well_formed : (b : List ℕ) → read_sheet b ≡ WellFormed → WellFormedSheet (parameters_of b)
+pub sheet_well_formed : (b : List ℕ) → read_sheet b ≡ (Ok tt) → WellFormedSheet (parameters_of b)
 sheet_well_formed b r =
     record {
       count = sheet_count b r;
@@ -117,7 +117,7 @@ sheet_well_formed b r =
       parents = (parents_iff (parameters_of b) (parameters_of b)).0 (sheet_parents b r);
     }
 
-module _ (b : List ℕ) (h : Bytes b) (r : read_sheet b ≡ WellFormed) (w : Bool) (f : get_or b 0 0 ≡ sheet_first w) where
+module _ (b : List ℕ) (h : Bytes b) (r : read_sheet b ≡ (Ok tt)) (w : Bool) (f : get_or b 0 0 ≡ sheet_first w) where
   read_held : Held parameter (sheet_first w) 1 32 b (parameters_of b)
   read_held = subst (λ (x : ℕ). Held parameter x 1 32 b (parameters_of b)) f (sheet_held b r h)
 

@@ -1,12 +1,11 @@
 -- Sheets, as they are written: which there are, and their bytes.
 -- Assumes nothing.
-use Rattle.std.specs.Prelude.{ℕ, ◌+◌, ◌≤◌, Bool, false, cond, ◌⊎◌, ◌≡◌, List, [], ◌∷◌, ◌++◌, length, get_or}
+use Rattle.std.specs.Prelude.{ℕ, ◌+◌, ◌≤◌, Bool, false, cond, ◌⊎◌, ◌≡◌, List, [], ◌∷◌, ◌++◌, length, get_or, Ok}
 use Rattle.base.specs.Bytes.{Bytes}
 use Rattle.base.specs.Lists.{Listed, All}
 use Rattle.base.specs.Names.{Name}
 use Rattle.block.specs.Seal.{seal}
 use Rattle.block.specs.Items.{marks, join}
-use Rattle.block.specs.declared.Validity.TheVariants.{WellFormed}
 use Rattle.base.specs.Kinds.{string, period, bundle_kind}
 use Rattle.sheet.specs.Sheet.{Parameter, parameters_of, read_sheet}
 
@@ -85,5 +84,5 @@ pub record SheetBlock (b : List ℕ) : Type 0 where
 pub record ReadsAsSheet (b : List ℕ) (marked : Bool) (ps : List Parameter) : Type 0 where
   pub first : get_or b 0 0 ≡ sheet_first marked
   pub bytes : Bytes b
-  pub reading : read_sheet b ≡ WellFormed
+  pub reading : read_sheet b ≡ (Ok tt)
   pub parameters : parameters_of b ≡ ps

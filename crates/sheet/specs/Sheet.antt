@@ -1,6 +1,6 @@
 -- Sheets, as they are read: 01's rules, in its order.
 -- Assumes nothing.
-use Rattle.std.specs.Prelude.{ℕ, zero, suc, ◌-◌, Bool, true, not, ◌&&◌, ◌||◌, List, [], ◌∷◌, leb, eqb, length, get_or}
+use Rattle.std.specs.Prelude.{ℕ, zero, suc, ◌-◌, Bool, true, not, ◌&&◌, ◌||◌, List, [], ◌∷◌, leb, eqb, length, get_or, Result, ⊤}
 use Rattle.base.specs.Lists.{equal}
 use Rattle.base.specs.Kinds.{string, period, bundle_kind}
 use Rattle.base.specs.Between.{between}
@@ -8,7 +8,7 @@ use Rattle.base.specs.Names.{is_name}
 use Rattle.block.specs.Seal.{check}
 use Rattle.block.specs.Items.{has_marks, has_either, items}
 use Rattle.block.specs.Readings.{reading}
-use Rattle.block.specs.declared.Validity.{Validity}
+use Rattle.block.specs.declared.Flaw.{Flaw}
 
 -- a parameter: its kind (1 string, 2 number, 3 date, 4 token, 5 reference, 6 period, 7 bundle), its bundle and its name; 02: the bundle is
 -- "0 or the place plus 1 of the parameter's bundle"
@@ -80,5 +80,5 @@ unfoldable pub sheet_layout : List ℕ → Bool
 sheet_layout b = has_either 0x50 0x51 1 32 b && are_right (has_marks (get_or b 0 0)) (parameters_of b)
 
 -- what the bytes are, as a sheet
-unfoldable pub read_sheet : List ℕ → Validity
+unfoldable pub read_sheet : List ℕ → Result ⊤ Flaw
 read_sheet b = reading (check b) (sheet_layout b)

@@ -4,7 +4,7 @@
 // bundle), its mark its bundle (0, or a bundle's index plus 1), and its text its name.
 #![tactic(auto)]
 
-ghost use Rattle.std.specs.Prelude.{◌≡◌};
+ghost use Rattle.std.specs.Prelude.{◌≡◌, Err, Ok};
 ghost use Rattle.block.specs.Seal.{HasSize};
 ghost use Rattle.sheet.specs.Sheet.{parameter, parameter_count, parameters_of, is_kind, is_parameter, are_parameters, clashes, absent, distinct, kind_at, has_parent, have_parents, are_right, sheet_layout, read_sheet};
 ghost use Rattle.block.specs.Walking.{coming};
@@ -13,7 +13,7 @@ ghost use Rattle.sheet.specs.Find.{find, enter, kinds_of, parents_of};
 
 use base::kind::{BUNDLE, PERIOD, STRING};
 use base::name::is_name;
-use block::{Integrity, Item, Validity, Walker};
+use block::{Flaw, Item, Walker};
 
 // A parameter that is found by its name: its index and its kind.
 #[derive(Clone, Copy)]
@@ -124,17 +124,17 @@ fn sheet_layout(sheet: &[u8]) -> bool
 
 // What any bytes are, as a sheet: well formed (01: sound), or one of the refusals 1, 2 and 3. "Byte 0 is 0x50" or, with bundles,
 // 0x51; "byte 1 the number of parameters, 0 to 32".
-pub fn read_sheet(sheet: &[u8]) -> Validity
+pub fn read_sheet(sheet: &[u8]) -> Result<(), Flaw>
     ensures { result ≡ read_sheet sheet.now }
 {
     match block::check(sheet) {
-        Integrity::WrongSize => Validity::WrongSize,
-        Integrity::WrongSum => Validity::WrongSum,
-        Integrity::Sealed => {
+        Err(Flaw::Size) => Err(Flaw::Size),
+        Err(Flaw::Sum) => Err(Flaw::Sum),
+        Ok(()) => {
             if sheet_layout(sheet) {
-                Validity::WellFormed
+                Ok(())
             } else {
-                Validity::WrongLayout
+                Err(Flaw::Layout)
             }
         }
     }
@@ -142,7 +142,7 @@ pub fn read_sheet(sheet: &[u8]) -> Validity
 
 // The number of parameters of a well-formed sheet.
 pub fn parameter_count(sheet: &[u8]) -> u8
-    requires { read_sheet sheet.now ≡ Validity.WellFormed }
+    requires { read_sheet sheet.now ≡ (Ok tt) }
     ensures { result ≡ parameter_count sheet.now }
 {
     sheet[1]
@@ -150,7 +150,7 @@ pub fn parameter_count(sheet: &[u8]) -> u8
 
 // The parameters of a well-formed sheet.
 fn parameters(sheet: &[u8]) -> Walker<'_>
-    requires { read_sheet sheet.now ≡ Validity.WellFormed }
+    requires { read_sheet sheet.now ≡ (Ok tt) }
     ensures { coming parameter result ≡ parameters_of sheet.now }
 {
     Walker {
@@ -163,7 +163,7 @@ fn parameters(sheet: &[u8]) -> Walker<'_>
 // Index and kind of the parameter that has the name in a bundle (0 at the top, else the bundle's index plus 1), on a well-formed
 // sheet.
 pub fn find(sheet: &[u8], bundle: u8, name: &[u8]) -> Option<Found>
-    requires { read_sheet sheet.now ≡ Validity.WellFormed }
+    requires { read_sheet sheet.now ≡ (Ok tt) }
     ensures { result ≡ find bundle name.now (parameters_of sheet.now) }
 {
     let mut index: u8 = 0;
@@ -178,7 +178,7 @@ pub fn find(sheet: &[u8], bundle: u8, name: &[u8]) -> Option<Found>
 
 // Where names are looked up inside what a name names: a bundle's index plus 1, or 255 where it names none.
 pub fn enter(sheet: &[u8], bundle: u8, name: &[u8]) -> u8
-    requires { read_sheet sheet.now ≡ Validity.WellFormed }
+    requires { read_sheet sheet.now ≡ (Ok tt) }
     ensures { result ≡ enter (parameters_of sheet.now) bundle name.now }
 {
     match find(sheet, bundle, name) {
@@ -189,7 +189,7 @@ pub fn enter(sheet: &[u8], bundle: u8, name: &[u8]) -> u8
 
 // A part of each parameter of a well-formed sheet by its index, and 0 past the last.
 fn table<F: Fn(Item<'_>) -> u8>(sheet: &[u8], part: F) -> [u8; 32]
-    requires sheet_value { read_sheet sheet.now ≡ Validity.WellFormed }
+    requires sheet_value { read_sheet sheet.now ≡ (Ok tt) }
     requires part_callable { F.IsAlwaysCallable part }
     ensures { TableBy (F.post part) sheet.now result }
 {
@@ -202,7 +202,7 @@ fn table<F: Fn(Item<'_>) -> u8>(sheet: &[u8], part: F) -> [u8; 32]
 
 // The kinds of a well-formed sheet's parameters by their index, and 0 past the last.
 pub fn kinds(sheet: &[u8]) -> [u8; 32]
-    requires { read_sheet sheet.now ≡ Validity.WellFormed }
+    requires { read_sheet sheet.now ≡ (Ok tt) }
     ensures { result ≡ kinds_of (parameters_of sheet.now) }
 {
     table(sheet, |p| p.tag)
@@ -210,7 +210,7 @@ pub fn kinds(sheet: &[u8]) -> [u8; 32]
 
 // The bundles of a well-formed sheet's parameters by their index, each the bundle's index plus 1, and 0 at the top and past the last.
 pub fn parents(sheet: &[u8]) -> [u8; 32]
-    requires { read_sheet sheet.now ≡ Validity.WellFormed }
+    requires { read_sheet sheet.now ≡ (Ok tt) }
     ensures { result ≡ parents_of (parameters_of sheet.now) }
 {
     table(sheet, |p| p.mark)

@@ -1,6 +1,7 @@
 -- Match is prepare and judge after each other for a list of any length, and neither match nor select gives 34 or 40.
 -- A list on which prepare answers has its cells, and a longer one gets the same; so what holds of a list of 1,024 cells holds of it.
 -- Assumes nothing.
+use Rattle.std.specs.Prelude.{Err, Ok, Result, ⊤}
 use Prim.Native.Nat.{ℕ, suc, ◌+◌, ◌%◌, ◌≤◌}
 use native.Mathlib.Omega.{arith}
 use mathlib.Core.Path.{◌≡◌, refl, ap, sym, ◌∙◌}
@@ -12,7 +13,6 @@ use lib.Seq.{take_at}
 use borrow.Author.Tests.{le-leb, leb-true}
 use Rattle.base.specs.Bytes.{Bytes}
 use Rattle.base.proofs.Tests.{cond-elim}
-use Rattle.block.specs.declared.Validity.{Validity}
 use Rattle.sheet.specs.Sheet.{Parameter}
 use Rattle.card.specs.Card.{read_card, entries_of, record_number}
 use Rattle.judge.specs.Sets.{conforms}
@@ -24,6 +24,7 @@ use Rattle.answer.proofs.Outcomes.{AtMost, found_at_most, stop_at_most}
 use Rattle.answer.proofs.Inputs.{at_most_then, question_number}
 use Rattle.answer.proofs.RowsAnswered.{match_is}
 use Rattle.sirophan.specs.AnyList.{MatchIsAnywhere}
+use Rattle.block.specs.declared.Flaw.{Flaw}
 
 -- ---- what prepare writes into a longer list
 
@@ -105,12 +106,12 @@ module _ (sheet text : List ℕ) where
 
 -- ---- the numbers of match and select
 
-card-number : (v : Validity) (fits : Bool) (c : Card) (i : ℕ) → AtMost 30 (card_step v fits c i)
-card-number Validity.WrongSize fits c i = stop_at_most 20 i (omega arith)
-card-number Validity.WrongSum fits c i = stop_at_most 21 i (omega arith)
-card-number Validity.WrongLayout fits c i = stop_at_most 22 i (omega arith)
-card-number Validity.WellFormed true c i = found_at_most
-card-number Validity.WellFormed false c i = stop_at_most 23 i (omega arith)
+card-number : (v : Result ⊤ Flaw) (fits : Bool) (c : Card) (i : ℕ) → AtMost 30 (card_step v fits c i)
+card-number (Err Flaw.Size) fits c i = stop_at_most 20 i (omega arith)
+card-number (Err Flaw.Sum) fits c i = stop_at_most 21 i (omega arith)
+card-number (Err Flaw.Layout) fits c i = stop_at_most 22 i (omega arith)
+card-number (Ok tt) true c i = found_at_most
+card-number (Ok tt) false c i = stop_at_most 23 i (omega arith)
 
 accept_number : (ps : List Parameter) (i : ℕ) (b : List ℕ) → AtMost 30 (accept_card ps i b)
 unfolding accept_card

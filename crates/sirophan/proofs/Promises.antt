@@ -1,7 +1,7 @@
 -- The promises, grouped by the letter's demands; each is proved where its one line says. The contracts of check, match_card and select say
 -- that the code answers as check_answer, match_answer and select_answer do, and leaves the list as select_cells says, and those of match_by_text
 -- and select_by the same; that of spell, that it answers as spell_answer does, and leaves the buffer as spell_bytes says. Assumes nothing.
-use Rattle.std.specs.Prelude.{Result, Some, None}
+use Rattle.std.specs.Prelude.{Result, Some, None, Ok}
 use Prim.Native.Nat.{ℕ, ◌+◌, ◌*◌, ◌-◌, ◌≤◌, ◌<◌}
 use Prim.Native.Char.{code}
 use mathlib.Core.Path.{◌≡◌, sym, ◌∙◌}
@@ -44,7 +44,6 @@ use Rattle.token.proofs.Split as token-split-law
 use Rattle.block.specs.Sum.{check_sum}
 use Rattle.judge.specs.Faults.{unsupported}
 use Rattle.base.specs.Operators.{operator_words, eq, ne, co, sw, ew, gt, lt, ge, le, ap, sa, eb, pr, po, ss, sb, «in», ni, re}
-use Rattle.block.specs.declared.Validity.TheVariants.{WellFormed}
 use Rattle.sheet.specs.Sheet.{Parameter, read_sheet}
 use Rattle.sheet.specs.Encode.{encode_sheet, WellFormedSheet, SheetForm, SheetBlock, ReadsAsSheet}
 use Rattle.sheet.specs.Trial.{trial_parameters, trial_sheet, bundle_sheet, stay_sheet}
@@ -194,10 +193,10 @@ refusal_keeps_buffer = spell.refusal_keeps_buffer
 -- ---- demand 2: the answer is the meaning
 
 -- what is read is what can be written, and what the grammar spells
-pub sheet_read : (b : List ℕ) → (Bytes b × (read_sheet b ≡ WellFormed)) ↔ SheetBlock b
+pub sheet_read : (b : List ℕ) → (Bytes b × (read_sheet b ≡ (Ok tt))) ↔ SheetBlock b
 sheet_read = sheets.sheet_iff
 
-pub card-read : (b : List ℕ) → (Bytes b × (read_card b ≡ WellFormed)) ↔ CardBlock b
+pub card-read : (b : List ℕ) → (Bytes b × (read_card b ≡ (Ok tt))) ↔ CardBlock b
 card-read = cards.card_iff
 
 -- and what is read of them is what was written

@@ -2,7 +2,7 @@
 // that the test has a meaning was for check to say, before any card.
 #![tactic(auto)]
 
-ghost use Rattle.std.specs.Prelude.{◌≡◌, cond, not, ◌&&◌, ◌≤◌, ◌<◌, length};
+ghost use Rattle.std.specs.Prelude.{◌≡◌, cond, not, ◌&&◌, ◌≤◌, ◌<◌, length, Ok};
 ghost use Rattle.sheet.specs.Sheet.{parameters_of, read_sheet};
 ghost use Rattle.card.specs.Card.{entries_of, read_card};
 ghost use Rattle.syntax.specs.Placed.{Placed};
@@ -15,7 +15,6 @@ ghost use Rattle.judge.specs.Verdicts.{text_counts};
 ghost use Rattle.text_judge.specs.Members.{parsed_says, judged_says, some_chosen, member_says};
 ghost use Rattle.filter.specs.Walks.{answer_of};
 
-use block::Validity;
 use filter::Spot;
 use judge::{Chosen, is_under, member_counts, member_truth, some_says, test_found, test_says};
 use kind::Meaning;
@@ -66,8 +65,8 @@ fn test_verdict(
     filter: &[u8],
     test: RawTest,
 ) -> bool
-    requires sheet_value { read_sheet sheet.now ≡ Validity.WellFormed }
-    requires card_value { read_card card.now ≡ Validity.WellFormed }
+    requires sheet_value { read_sheet sheet.now ≡ (Ok tt) }
+    requires card_value { read_card card.now ≡ (Ok tt) }
     requires filter_len_bound { length filter.now ≤ 1024 }
     requires placed { Placed filter.now test }
     ensures { result ≡ (judging needed (parameters_of sheet.now) bundle (chosen_of chosen (entries_of card.now))).one (test_of filter.now test) }
@@ -110,8 +109,8 @@ fn entry_chosen(
     occurrence: u8,
     spot: Spot,
 ) -> bool
-    requires sheet_value { read_sheet sheet.now ≡ Validity.WellFormed }
-    requires card_value { read_card card.now ≡ Validity.WellFormed }
+    requires sheet_value { read_sheet sheet.now ≡ (Ok tt) }
+    requires card_value { read_card card.now ≡ (Ok tt) }
     requires filter_len_bound { length filter.now ≤ 1024 }
     requires at_in_bounds { spot.at ≤ length filter.now }
     ensures { result ≡ (counts && parsed_says (parameters_of sheet.now) spot.bundle (of_occurrence occurrence (entries_of card.now)) (filter_at spot.levels filter.now spot.close spot.at)) }
@@ -136,8 +135,8 @@ fn some_chosen(
     meaning: Meaning,
     test: RawTest,
 ) -> bool
-    requires sheet_value { read_sheet sheet.now ≡ Validity.WellFormed }
-    requires card_value { read_card card.now ≡ Validity.WellFormed }
+    requires sheet_value { read_sheet sheet.now ≡ (Ok tt) }
+    requires card_value { read_card card.now ≡ (Ok tt) }
     requires filter_len_bound { length filter.now ≤ 1024 }
     requires at_in_bounds { spot.at ≤ length filter.now }
     requires placed { Placed filter.now test }
@@ -164,8 +163,8 @@ fn member_verdict(
     spot: Spot,
     test: RawTest,
 ) -> bool
-    requires sheet_value { read_sheet sheet.now ≡ Validity.WellFormed }
-    requires card_value { read_card card.now ≡ Validity.WellFormed }
+    requires sheet_value { read_sheet sheet.now ≡ (Ok tt) }
+    requires card_value { read_card card.now ≡ (Ok tt) }
     requires filter_len_bound { length filter.now ≤ 1024 }
     requires at_in_bounds { spot.at ≤ length filter.now }
     requires placed { Placed filter.now test }
@@ -206,8 +205,8 @@ fn judge_round(
     filter: &[u8],
     spot: Spot,
 ) -> Option<Judged>
-    requires sheet_value { read_sheet sheet.now ≡ Validity.WellFormed }
-    requires card_value { read_card card.now ≡ Validity.WellFormed }
+    requires sheet_value { read_sheet sheet.now ≡ (Ok tt) }
+    requires card_value { read_card card.now ≡ (Ok tt) }
     requires filter_len_bound { length filter.now ≤ 1024 }
     requires at_in_bounds { spot.at ≤ length filter.now }
     requires close_value { spot.close ≡ round }
@@ -232,8 +231,8 @@ fn judge_chosen(
     spot: Spot,
     until: usize,
 ) -> Option<Judged>
-    requires sheet_value { read_sheet sheet.now ≡ Validity.WellFormed }
-    requires card_value { read_card card.now ≡ Validity.WellFormed }
+    requires sheet_value { read_sheet sheet.now ≡ (Ok tt) }
+    requires card_value { read_card card.now ≡ (Ok tt) }
     requires filter_len_bound { length filter.now ≤ 1024 }
     requires at_le_until { spot.at ≤ until }
     requires until_in_bounds { until < length filter.now }
@@ -266,8 +265,8 @@ fn judge_item(
     filter: &[u8],
     spot: Spot,
 ) -> Option<Judged>
-    requires sheet_value { read_sheet sheet.now ≡ Validity.WellFormed }
-    requires card_value { read_card card.now ≡ Validity.WellFormed }
+    requires sheet_value { read_sheet sheet.now ≡ (Ok tt) }
+    requires card_value { read_card card.now ≡ (Ok tt) }
     requires filter_len_bound { length filter.now ≤ 1024 }
     requires at_in_bounds { spot.at ≤ length filter.now }
     ensures { result ≡ answer_of judged (judging needed (parameters_of sheet.now) spot.bundle (chosen_of chosen (entries_of card.now))) (item_at spot.levels filter.now spot.close spot.at) }
@@ -320,8 +319,8 @@ pub fn judge_filter(
     filter: &[u8],
     spot: Spot,
 ) -> Option<Judged>
-    requires sheet_value { read_sheet sheet.now ≡ Validity.WellFormed }
-    requires card_value { read_card card.now ≡ Validity.WellFormed }
+    requires sheet_value { read_sheet sheet.now ≡ (Ok tt) }
+    requires card_value { read_card card.now ≡ (Ok tt) }
     requires filter_len_bound { length filter.now ≤ 1024 }
     requires at_in_bounds { spot.at ≤ length filter.now }
     ensures { result ≡ answer_of judged (judging needed (parameters_of sheet.now) spot.bundle (chosen_of chosen (entries_of card.now))) (filter_at spot.levels filter.now spot.close spot.at) }

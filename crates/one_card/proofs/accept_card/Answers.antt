@@ -6,11 +6,11 @@ use Rattle.one_card.proofs.accept_card.Goals as goal
 pub conforms-requires : goal.conforms-requires
 conforms-requires c = search (card-known, rules)
 
-pub returns-in-WrongSize : goal.returns-in-WrongSize
-returns-in-WrongSize c = search (accepts_size, rules)
+pub returns-in-Err-Size : goal.returns-in-Err-Size
+returns-in-Err-Size c = search (accepts_size, rules)
 
-pub returns-in-WrongSum : goal.returns-in-WrongSum
-returns-in-WrongSum c = search (accepts_sum, rules)
+pub returns-in-Err-Sum : goal.returns-in-Err-Sum
+returns-in-Err-Sum c = search (accepts_sum, rules)
 
-pub returns-in-WrongLayout : goal.returns-in-WrongLayout
-returns-in-WrongLayout c = search (accepts_layout, rules)
+pub returns-in-Err-Layout : goal.returns-in-Err-Layout
+returns-in-Err-Layout c = search (accepts_layout, rules)

@@ -6,11 +6,11 @@ use Rattle.searching.proofs.read_search.Goals as goal
 pub read_text-requires : goal.read_text-requires
 read_text-requires c = search (sheet_known, rules)
 
-pub returns-in-WrongSize : goal.returns-in-WrongSize
-returns-in-WrongSize c = search (sheet_size, rules)
+pub returns-in-Err-Size : goal.returns-in-Err-Size
+returns-in-Err-Size c = search (sheet_size, rules)
 
-pub returns-in-WrongSum : goal.returns-in-WrongSum
-returns-in-WrongSum c = search (sheet_sum, rules)
+pub returns-in-Err-Sum : goal.returns-in-Err-Sum
+returns-in-Err-Sum c = search (sheet_sum, rules)
 
-pub returns-in-WrongLayout : goal.returns-in-WrongLayout
-returns-in-WrongLayout c = search (sheet_layout_lem, rules)
+pub returns-in-Err-Layout : goal.returns-in-Err-Layout
+returns-in-Err-Layout c = search (sheet_layout_lem, rules)

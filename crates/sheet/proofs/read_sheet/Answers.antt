@@ -8,13 +8,13 @@ use Rattle.sheet.proofs.read_sheet.Goals as goal
 pub sheet_layout-requires : goal.sheet_layout-requires
 sheet_layout-requires c = search (check-length, rules)
 
-pub returns-in-WrongSize : goal.returns-in-WrongSize
+pub returns-in-Err-Size : goal.returns-in-Err-Size
 unfolding read_sheet
-returns-in-WrongSize c = search (reading-size, rules)
+returns-in-Err-Size c = search (reading-size, rules)
 
-pub returns-in-WrongSum : goal.returns-in-WrongSum
+pub returns-in-Err-Sum : goal.returns-in-Err-Sum
 unfolding read_sheet
-returns-in-WrongSum c = search (reading_sum, rules)
+returns-in-Err-Sum c = search (reading_sum, rules)
 
 pub returns-then-sheet_layout : goal.returns-then-sheet_layout
 unfolding read_sheet

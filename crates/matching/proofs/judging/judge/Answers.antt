@@ -5,16 +5,16 @@ use Rattle.matching.proofs.RowsJudged.{judge_size, judge_sum, judge_layout, judg
 use Rattle.matching.proofs.judging.judge.Goals as goal
 
 pub judge_rows-requires : goal.judge_rows-requires
-judge_rows-requires c = sym c.read_sheet-reading.ensures ∙ c.in-WellFormed.is
+judge_rows-requires c = sym c.read_sheet-reading.ensures ∙ c.in-Ok.is
 
-pub returns-in-WellFormed : goal.returns-in-WellFormed
-returns-in-WellFormed c = search (judge_right, rules)
+pub returns-in-Ok : goal.returns-in-Ok
+returns-in-Ok c = search (judge_right, rules)
 
-pub returns-in-WrongSize : goal.returns-in-WrongSize
-returns-in-WrongSize c = search (judge_size, rules)
+pub returns-in-Err-Size : goal.returns-in-Err-Size
+returns-in-Err-Size c = search (judge_size, rules)
 
-pub returns-in-WrongSum : goal.returns-in-WrongSum
-returns-in-WrongSum c = search (judge_sum, rules)
+pub returns-in-Err-Sum : goal.returns-in-Err-Sum
+returns-in-Err-Sum c = search (judge_sum, rules)
 
-pub returns-in-WrongLayout : goal.returns-in-WrongLayout
-returns-in-WrongLayout c = search (judge_layout, rules)
+pub returns-in-Err-Layout : goal.returns-in-Err-Layout
+returns-in-Err-Layout c = search (judge_layout, rules)

@@ -12,11 +12,11 @@ returns-then-read_entries c = search (takes_conforming, rules)
 pub returns-else-read_entries : goal.returns-else-read_entries
 returns-else-read_entries c = search (takes_misfit, rules)
 
-pub returns-in-WrongSize : goal.returns-in-WrongSize
-returns-in-WrongSize c = search (takes_size, rules)
+pub returns-in-Err-Size : goal.returns-in-Err-Size
+returns-in-Err-Size c = search (takes_size, rules)
 
-pub returns-in-WrongSum : goal.returns-in-WrongSum
-returns-in-WrongSum c = search (takes_sum, rules)
+pub returns-in-Err-Sum : goal.returns-in-Err-Sum
+returns-in-Err-Sum c = search (takes_sum, rules)
 
-pub returns-in-WrongLayout : goal.returns-in-WrongLayout
-returns-in-WrongLayout c = search (takes_layout, rules)
+pub returns-in-Err-Layout : goal.returns-in-Err-Layout
+returns-in-Err-Layout c = search (takes_layout, rules)
