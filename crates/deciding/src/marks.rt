@@ -82,6 +82,7 @@ fn mark_from(rows: &[u32], marks: &[u8], first: usize) -> Marked
     let mut at = after_first(rows);
     let mut mark = mark_at(marks, first);
     let mut next = first + 1;
+    // no for: the rows of a second part are passed over at once
     while at < rows.len() {
         match row_of(rows[at]) {
             Row::Not => {

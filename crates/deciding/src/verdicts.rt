@@ -43,6 +43,7 @@ fn gather_rest(
 {
     let mut at = first_end;
     let mut next = first + 1;
+    // no for: the rows of a second part are passed over at once
     while at < rows.len() {
         match row_of(rows[at]) {
             Row::Not => {

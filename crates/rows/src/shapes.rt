@@ -141,6 +141,7 @@ fn shape_with(
 {
     let mut shape = begun.shape;
     let mut at = begun.next;
+    // no for: the rows of a second part are passed over at once
     while at < rows.len() {
         match row_of(rows[at]) {
             Row::Not => {

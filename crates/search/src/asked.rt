@@ -37,19 +37,11 @@ fn prefix_asked(text: &[u8]) -> Prefixed
     ensures { PrefixOf (prefixed prefixes text.now) text.now result }
 {
     match read_operator(text, 0) {
-        Some(k) => {
-            if is_prefix(k) {
-                return Prefixed {
-                    operator: k,
-                    skip: 2,
-                };
-            }
-            return Prefixed {
-                operator: EQ,
-                skip: 0,
-            };
-        }
-        None => Prefixed {
+        Some(k) if is_prefix(k) => Prefixed {
+            operator: k,
+            skip: 2,
+        },
+        _ => Prefixed {
             operator: EQ,
             skip: 0,
         },

@@ -17,6 +17,7 @@ pub fn run_end<F: Fn(u8) -> bool>(s: &[u8], at: usize, part: F) -> usize
     requires callable { F.IsAlwaysCallable part }
     ensures { (p : ℕ → Bool) → ((b : ℕ) (r : Bool) → F.post part b r → r ≡ p b) → RunEnd p s.now at result }
 {
+    // an iterator over the rest takes more instructions a call
     let mut i = at;
     while i < s.len() && part(s[i]) {
         i += 1;

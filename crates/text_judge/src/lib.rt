@@ -81,10 +81,7 @@ fn test_verdict(
 fn judged_says(judged: Option<Judged>) -> bool
     ensures { result ≡ judged_says judged }
 {
-    match judged {
-        Some(judged) => judged.says,
-        None => false,
-    }
+    judged.is_some_and(|judged| judged.says)
 }
 
 // Whether an entry's text counts for the test of a member: it is among those that count, stands under the parameter, and so on.
