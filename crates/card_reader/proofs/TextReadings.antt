@@ -1,6 +1,6 @@
 -- What a text reads to, by kind.
 -- Assumes nothing.
-use Rattle.std.specs.Prelude.{Option, Some, None, is_some}
+use Rattle.std.specs.Prelude.{Option, Some, None, is_some, unwrap_or}
 use Prim.Native.Nat.{ℕ, ◌+◌, ◌*◌, ◌≤◌}
 use native.Mathlib.Omega.{arith}
 use mathlib.Core.Path.{◌≡◌, refl, ap, sym, subst, ◌∙◌}
@@ -20,7 +20,7 @@ use Rattle.period.specs.declared.Period.{Period}
 use Rattle.period.proofs.Spelling as spelling
 use Rattle.kind.specs.Readable.{card_readable}
 use Rattle.kind.specs.Table as table
-use Rattle.card_reader.specs.Readings.{open_bit, instant_of, end_from, period_from, Serves, serves_bytes, serves_number, serves_span, ReadAs, packed, unpacked}
+use Rattle.card_reader.specs.Readings.{open_bit, end_from, period_from, Serves, serves_bytes, serves_number, serves_span, ReadAs, packed, unpacked}
 use Rattle.card_reader.specs.declared.TextReading.{TextReading}
 
 -- ---- a text that is kept by its bytes
@@ -105,16 +105,8 @@ pub bit-known : (e : Option ℤ) (t : ℤ) → e ≡ Some t → (0 ≡ open_bit 
 unfolding open_bit
 bit-known e t h = (rw h, omega arith)
 
-pub instant_open : (e : Option ℤ) → e ≡ None → pos 0 ≡ instant_of e
-unfolding instant_of
-instant_open e h = rw h
-
-pub instant-known : (e : Option ℤ) (t : ℤ) → e ≡ Some t → t ≡ instant_of e
-unfolding instant_of
-instant-known e t h = rw h
-
-ends-back : (s t : Option ℤ) → periods.period s t ≡ period_from (open_bit s + 2 * open_bit t) (instant_of s) (instant_of t)
-unfolding open_bit instant_of period_from end_from
+ends-back : (s t : Option ℤ) → periods.period s t ≡ period_from (open_bit s + 2 * open_bit t) (unwrap_or s (pos 0)) (unwrap_or t (pos 0))
+unfolding open_bit period_from end_from
 ends-back None None = refl
 ends-back None (Some y) = refl
 ends-back (Some x) None = refl

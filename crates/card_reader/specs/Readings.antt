@@ -1,6 +1,6 @@
 -- What a text on a card reads to, in numbers.
 -- Assumes nothing.
-use Rattle.std.specs.Prelude.{ℕ, ◌+◌, ◌*◌, ◌%◌, ◌/◌, ◌≡◌, Bool, true, false, cond, List, eqb, ℤ, pos, Option, Some, None, is_some}
+use Rattle.std.specs.Prelude.{ℕ, ◌+◌, ◌*◌, ◌%◌, ◌/◌, ◌≡◌, Bool, true, false, cond, List, eqb, ℤ, pos, Option, Some, None, is_some, unwrap_or}
 use Rattle.number.specs.Reading as numbers
 use Rattle.number.specs.declared.Decimal.{Decimal}
 use Rattle.period.specs.Texts as periods
@@ -15,10 +15,6 @@ use Rattle.card_reader.specs.declared.Packed.{Packed}
 unfoldable pub open_bit : Option ℤ → ℕ
 open_bit None = 1
 open_bit (Some t) = 0
-
-unfoldable pub instant_of : Option ℤ → ℤ
-instant_of None = pos 0
-instant_of (Some t) = t
 
 unfoldable pub end_from : Bool → ℤ → Option ℤ
 end_from true t = None
@@ -48,7 +44,7 @@ pub record ReadAs (kind : ℕ) (t : List ℕ) (r : Option TextReading) : Type 0 
 unfoldable pub packed : TextReading → Packed
 packed TextReading.Bytes = record { form = 0; value = 0; unit = 0; start = pos 0; end = pos 0 }
 packed (TextReading.Number n) = record { form = 1; value = n.digits; unit = n.decimals; start = pos 0; end = pos 0 }
-packed (TextReading.Span p) = record { form = 2; value = 0; unit = open_bit p.start + 2 * open_bit p.end; start = instant_of p.start; end = instant_of p.end }
+packed (TextReading.Span p) = record { form = 2; value = 0; unit = open_bit p.start + 2 * open_bit p.end; start = unwrap_or p.start (pos 0); end = unwrap_or p.end (pos 0) }
 
 unfoldable pub unpacked : Packed → TextReading
 unpacked h =

@@ -5,7 +5,7 @@ ghost use Rattle.card_reader.specs.Lists.{Lent, ReadsCard};
 ghost use Rattle.card_reader.specs.Storing.{Begun, Takes};
 
 use crate::readings::text_reading;
-use crate::store::{store_entry, wide};
+use crate::store::store_entry;
 use block::Item;
 
 // Brings the parameters' cells to where a card begins.
@@ -13,10 +13,8 @@ fn begin(cells: &mut [u64])
     requires { length cells.old ≡ 608 }
     ensures { Begun cells.old cells.new 32 }
 {
-    let mut i = 0;
-    while i < 32 {
+    for i in 0..32 {
         cells[i] = cells[544 + i];
-        i += 1;
     }
 }
 
@@ -29,7 +27,7 @@ fn take_entry(kinds: &[u8], cells: &mut [u64], spans: &mut [i64], e: usize, item
     requires end_bound { item.start + length item.text.now ≤ 508 }
     ensures { Takes kinds.now e item.entry cells.old spans.old cells.new spans.new result }
 {
-    let i = wide(item.tag);
+    let i = usize::from(item.tag);
     if i >= 32 {
         return false;
     }

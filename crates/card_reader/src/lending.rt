@@ -3,14 +3,7 @@ ghost use Rattle.std.specs.Prelude.{◌≡◌, ◌<◌, ◌≤◌, length, get_o
 ghost use Rattle.card_reader.specs.Lists.{Lent, kinds_in};
 ghost use Rattle.card_reader.specs.Lending.{Prepares, Lends, Keeps};
 
-use crate::store::{put, wide};
-
-// The byte as a number of 64 bits.
-pub fn widest(n: u8) -> u64
-    ensures { (result ≡ n) × (result < 256) }
-{
-    n as u64
-}
+use crate::store::put;
 
 // Has nothing kept of a parameter, and notes its kind.
 fn prepare(cells: &mut [u64], i: usize, kind: u8)
@@ -19,7 +12,7 @@ fn prepare(cells: &mut [u64], i: usize, kind: u8)
     ensures { Prepares i kind cells.old cells.new }
 {
     put(cells, 544 + i, 65);
-    put(cells, 576 + i, widest(kind));
+    put(cells, 576 + i, u64::from(kind));
 }
 
 // Prepares the lists for a run: nothing is kept, and the kinds are those of the sheet.
@@ -29,10 +22,8 @@ pub fn lend(kinds: &[u8], cells: &mut [u64], spans: &[i64])
     requires spans_len { length spans.now ≡ 128 }
     ensures { Lends kinds.now cells.new spans.now }
 {
-    let mut i = 0;
-    while i < 32 {
-        prepare(cells, i, kinds[i]);
-        i += 1;
+    for (i, &kind) in kinds.iter().enumerate() {
+        prepare(cells, i, kind);
     }
 }
 
@@ -42,7 +33,7 @@ pub fn keep(cells: &mut [u64], spans: &[i64], index: u8)
     requires index_bound { index < 32 }
     ensures { Keeps index cells.old cells.new spans.now }
 {
-    put(cells, 544 + wide(index), 0);
+    put(cells, 544 + usize::from(index), 0);
 }
 
 // The kind of a parameter.
@@ -51,6 +42,5 @@ pub fn kind_at(cells: &[u64], spans: &[i64], index: u8) -> u8
     requires index_bound { index < 32 }
     ensures { result ≡ get_or (kinds_in cells.now) index 0 }
 {
-    let i = wide(index);
-    cells[576 + i] as u8
+    cells[576 + usize::from(index)] as u8
 }

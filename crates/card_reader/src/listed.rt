@@ -7,10 +7,8 @@ ghost use Rattle.judge.specs.Verdicts.{some_value, text_counts};
 ghost use Rattle.card_reader.specs.Lists.{entry_cell, no_entry, reading_at, Holds, IsKept, KeepsCard};
 ghost use Rattle.card_reader.specs.Listed.{entry_counts, OnChain, FirstFrom};
 
-use crate::lending::widest;
 use crate::packing::unpacked;
 use crate::related::reading_counts;
-use crate::store::wide;
 use crate::{Packed, Question, TextReading};
 use judge::Chosen;
 
@@ -19,7 +17,7 @@ fn is_chosen(chosen: Chosen, occurrence: u64) -> bool
     ensures { result ≡ counts chosen occurrence }
 {
     match chosen {
-        Some(own) => occurrence == widest(own),
+        Some(own) => occurrence == u64::from(own),
         None => true,
     }
 }
@@ -105,7 +103,7 @@ pub fn chain_of(cells: &[u64], index: u8) -> usize
     requires index_bound { index < 32 }
     ensures { result ≡ get_or cells.now index 0 }
 {
-    cells[wide(index)] as usize
+    cells[usize::from(index)] as usize
 }
 
 // Where it goes on behind the entry e.

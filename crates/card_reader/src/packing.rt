@@ -1,6 +1,6 @@
 // What a text reads to in whole numbers, and back.
 ghost use Rattle.std.specs.Prelude.{◌≡◌, ◌≤◌};
-ghost use Rattle.card_reader.specs.Readings.{open_bit, instant_of, end_from, period_from, packed, unpacked};
+ghost use Rattle.card_reader.specs.Readings.{open_bit, end_from, period_from, packed, unpacked};
 
 use crate::{Packed, TextReading};
 use number::Decimal;
@@ -13,16 +13,6 @@ fn open_bit(end: Option<i64>) -> u64
     match end {
         None => 1,
         Some(_) => 0,
-    }
-}
-
-// The instant of an end, and 0 where it is missing.
-fn instant_of(end: Option<i64>) -> i64
-    ensures { result ≡ instant_of end }
-{
-    match end {
-        None => 0,
-        Some(t) => t,
     }
 }
 
@@ -50,8 +40,8 @@ pub fn packed(read: TextReading) -> Packed
             form: 2,
             value: 0,
             unit: open_bit(p.start) + 2 * open_bit(p.end),
-            start: instant_of(p.start),
-            end: instant_of(p.end),
+            start: p.start.unwrap_or(0),
+            end: p.end.unwrap_or(0),
         },
     }
 }

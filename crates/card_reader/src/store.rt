@@ -7,13 +7,6 @@ use crate::TextReading;
 use crate::packing::packed;
 use block::Item;
 
-// The byte as an index.
-pub fn wide(n: u8) -> usize
-    ensures { (result ≡ n) × (result < 256) }
-{
-    n as usize
-}
-
 // Stores a number.
 pub fn put(cells: &mut [u64], at: usize, n: u64)
     requires cells_len { length cells.old ≡ 608 }
@@ -42,7 +35,7 @@ fn place(cells: &mut [u64], e: usize, occurrence: u8, start: usize, end: usize)
     ensures { Placed cells.old e occurrence start end cells.new }
 {
     let cell = 32 + 8 * e;
-    put(cells, cell + 1, occurrence as u64);
+    put(cells, cell + 1, u64::from(occurrence));
     put(cells, cell + 2, start as u64);
     put(cells, cell + 3, end as u64);
 }
@@ -93,7 +86,7 @@ pub fn store_entry(
     requires e_bound { e < 64 }
     ensures { Stored e item.entry (readings.packed read) cells.old spans.old cells.new spans.new }
 {
-    link(cells, wide(item.tag), e);
+    link(cells, usize::from(item.tag), e);
     let end = item.start + item.text.len();
     place(cells, e, item.mark, item.start, end);
     let read = packed(read);
