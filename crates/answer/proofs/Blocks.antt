@@ -28,7 +28,7 @@ use Rattle.block.specs.declared.Flaw.{Flaw}
 reads_to : (b : List ℕ) (IsBlock : Type 0) (layout : Bool) → (reading (check b) layout ≡ (Ok tt) → IsBlock) → (IsBlock → reading (check b) layout ≡ (Ok tt))
     → ReadsTo b IsBlock (reading (check b) layout)
 reads_to b IsBlock layout there back =
-    let by_layout : IsSealed b → ReadsTo b IsBlock (reading (Ok tt) layout) =
+    let by_layout : IsSealed b → ReadsTo b IsBlock (reading (Ok (tt {0})) layout) =
     λ s. unfold reading in cond-elim (ReadsTo b IsBlock) layout
     (λ l. all_right s.size s.sum (there ((reading_iff b layout).1 (s, l))))
     (λ n. layout_wrong s.size s.sum (λ h. both_ways ((reading_iff b layout).0 (back h)).1 n))

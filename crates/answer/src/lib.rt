@@ -2,8 +2,10 @@
 // or a no, or a refusal with its reason and its place.
 #![tactic(auto)]
 
+mod accept;
 mod list;
 
+pub use accept::accept_sheet;
 pub use list::write;
 
 // Which way a filter is judged: by its rows, or by its text, which is slower and shares no evaluation with the rows. Both answer the same.

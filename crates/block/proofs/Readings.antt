@@ -13,19 +13,15 @@ use Rattle.block.specs.Sum.{check_sum}
 use Rattle.block.specs.Seal.{check, IsSealed}
 use Rattle.block.specs.Items.{LaysOut}
 use Rattle.block.specs.Readings.{reading}
-use Rattle.block.proofs.Seal.{check_iff, check-size_wrong, check_sum_wrong, check_right}
+use Rattle.block.proofs.Seal.{check_iff, check-size_wrong, check_sum_wrong, check_right, flawed}
 use Rattle.block.specs.declared.Flaw.{Flaw}
 
 -- ---- what a reader answers after the check, and after the layout
 
 module _ (r c : Result ⊤ Flaw) (e : r ≡ c) (layout : Bool) where
-  pub reading-size : r ≡ (Err Flaw.Size) → (Err Flaw.Size) ≡ reading c layout
+  pub reading_flaw : (flaw : Flaw) → r ≡ Err flaw → Err flaw ≡ reading c layout
   unfolding reading
-  reading-size k = rw (sym e ∙ k)
-
-  pub reading_sum : r ≡ (Err Flaw.Sum) → (Err Flaw.Sum) ≡ reading c layout
-  unfolding reading
-  reading_sum k = rw (sym e ∙ k)
+  reading_flaw flaw k = rw (sym e ∙ k)
 
   module _ (k : r ≡ (Ok tt)) (t : Bool) (l : t ≡ layout) where
     pub reading_layout : t ≡ false → (Err Flaw.Layout) ≡ reading c layout
@@ -40,10 +36,9 @@ module _ (r c : Result ⊤ Flaw) (e : r ≡ c) (layout : Bool) where
 
 reading_sealed : (c : Result ⊤ Flaw) (layout : Bool) → reading c layout ≡ (Ok tt) → (c ≡ (Ok tt)) × (layout ≡ true)
 unfolding reading
-reading_sealed (Err Flaw.Size) layout h = absurd (let z : ◌≡◌ {A = ℕ} 0 1 = cc in omega arith)
-reading_sealed (Err Flaw.Sum) layout h = absurd (let z : ◌≡◌ {A = ℕ} 0 1 = cc in omega arith)
-reading_sealed (Ok tt) true h = (refl, refl)
-reading_sealed (Ok tt) false h = absurd (let z : ◌≡◌ {A = ℕ} 0 1 = cc in omega arith)
+reading_sealed (Err flaw) layout h = absurd (flawed flaw h)
+reading_sealed (Ok t) true h = (h, refl)
+reading_sealed (Ok t) false h = absurd (flawed Flaw.Layout h)
 
 pub reading_iff : (b : List ℕ) (layout : Bool) → (reading (check b) layout ≡ (Ok tt)) ↔ (IsSealed b × (layout ≡ true))
 reading_iff b layout = (
@@ -54,11 +49,11 @@ reading_iff b layout = (
 -- ---- what a reader answers that looks at the layout first
 
 pub block_size : (b : List ℕ) (layout : Bool) → (length b ≡ 512 → ⊥) → (Err Flaw.Size) ≡ reading (check b) layout
-block_size b layout n = reading-size (check b) (check b) refl layout (sym (check-size_wrong b n))
+block_size b layout n = reading_flaw (check b) (check b) refl layout Flaw.Size (sym (check-size_wrong b n))
 
 module _ (b : List ℕ) (h : length b ≡ 512) (s w : ℕ) (es : s ≡ check_sum b) (ew : w ≡ word b 508) (layout : Bool) where
   pub block_sum : (s ≡ w → ⊥) → (Err Flaw.Sum) ≡ reading (check b) layout
-  block_sum n = reading_sum (check b) (check b) refl layout (sym (check_sum_wrong b h s w es ew n))
+  block_sum n = reading_flaw (check b) (check b) refl layout Flaw.Sum (sym (check_sum_wrong b h s w es ew n))
 
   module _ (k : s ≡ w) (r : Option ℕ) (l : LaysOut b layout r) where
     pub block_right : (p : ℕ) → r ≡ Some p → (Ok tt) ≡ reading (check b) layout

@@ -37,17 +37,15 @@ module _ (b : List ℕ) (h : length b ≡ 512) (s w : ℕ) (es : s ≡ check_sum
   unfolding check
   check_right e = rw (eq-eqb (length b) 512 h, eq-eqb (check_sum b) (word b 508) (sym es ∙ e ∙ ew))
 
-sum_not_sealed : (Err Flaw.Sum) ≡ (Ok tt) → ⊥
-sum_not_sealed e = let z : ◌≡◌ {A = ℕ} 0 1 = cc in omega arith
-
-size_not_sealed : (Err Flaw.Size) ≡ (Ok tt) → ⊥
-size_not_sealed e = let z : ◌≡◌ {A = ℕ} 0 1 = cc in omega arith
+-- where something is wrong, nothing reads
+pub flawed : (flaw : Flaw) → ◌≡◌ {A = Result ⊤ Flaw} (Err flaw) (Ok tt) → ⊥
+flawed flaw e = let z : ◌≡◌ {A = ℕ} 0 1 = cc in omega arith
 
 check_sealed : (b : List ℕ) → check b ≡ (Ok tt) → IsSealed b
 unfolding check
 check_sealed b h =
-    let p = cond-first (eqb (length b) 512) (cond (eqb (check_sum b) (word b 508)) (Ok tt) (Err Flaw.Sum)) (Err Flaw.Size) size_not_sealed h in
-    let q = cond-first (eqb (check_sum b) (word b 508)) (Ok tt) (Err Flaw.Sum) sum_not_sealed p.1 in
+    let p = cond-first (eqb (length b) 512) (cond (eqb (check_sum b) (word b 508)) (Ok tt) (Err Flaw.Sum)) (Err Flaw.Size) (flawed Flaw.Size) h in
+    let q = cond-first (eqb (check_sum b) (word b 508)) (Ok tt) (Err Flaw.Sum) (flawed Flaw.Sum) p.1 in
     record { size = eqb-true (length b) 512 p.0; sum = eqb-true (check_sum b) (word b 508) q.0 }
 
 -- the test says so exactly where the size and the sum are right

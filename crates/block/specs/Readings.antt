@@ -5,6 +5,5 @@ use Rattle.block.specs.declared.Flaw.{Flaw}
 
 -- size, then check sum, then layout
 unfoldable pub reading : Result ⊤ Flaw → Bool → Result ⊤ Flaw
-reading (Err Flaw.Size) layout = (Err Flaw.Size)
-reading (Err Flaw.Sum) layout = (Err Flaw.Sum)
-reading (Ok tt) layout = cond layout (Ok tt) (Err Flaw.Layout)
+reading (Err flaw) layout = Err flaw
+reading (Ok t) layout = cond layout (Ok t) (Err Flaw.Layout)

@@ -1,47 +1,64 @@
 // Cards: blocks of 512 bytes with a record number and entries, each a text under a parameter of the sheet. A reader asks
-// `read_card` first; the record number and the entries of a well-formed card are then at hand.
+// `Card::read` first; the record number and the entries of a card are then at hand.
 #![tactic(auto)]
 
-ghost use Rattle.std.specs.Prelude.{◌≡◌, Ok};
+ghost use Rattle.std.specs.Prelude.{◌≡◌, ℕ, List, Err, Ok, IfOk, IfErr};
 ghost use Rattle.block.specs.Walking.{coming};
 ghost use Rattle.card.specs.Card.{entry, record_number, entry_count, entries_of, read_card};
 
 use block::{Flaw, Walker};
+use std::marker::Model;
 
-// What any bytes are, as a card: well formed (01: sound), or one of the refusals 20, 21 and 22. "Byte 0 is 0x43" or, with
-// occurrences, 0x44; "bytes 1 to 4 the record number, low byte first; byte 5 the number of entries, 0 to 64".
-pub fn read_card(card: &[u8]) -> Result<(), Flaw>
-    ensures { result ≡ read_card card.now }
-{
-    block::read_block(card, 0x43, 0x44, 5, 64)
+// A card: bytes that are well formed (01: sound). A clause sees the bytes.
+#[derive(Drop)]
+pub struct Card<'a> {
+    pub bytes: &'a [u8],
 }
 
-// The record number of a well-formed card.
-pub fn record_number(card: &[u8]) -> u32
-    requires { read_card card.now ≡ (Ok tt) }
-    ensures { result ≡ record_number card.now }
-{
-    block::word(card, 1)
+impl<'a> Model for Card<'a> {
+    ghost Value = { List ℕ };
+
+    ghost view = { λ card. card.bytes.now };
+
+    ghost invariant = { λ card. read_card card.bytes.now ≡ Ok tt };
 }
 
-// The number of entries of a well-formed card.
-pub fn entry_count(card: &[u8]) -> u8
-    requires { read_card card.now ≡ (Ok tt) }
-    ensures { result ≡ entry_count card.now }
-{
-    card[5]
-}
+impl<'a> Card<'a> {
+    // The card that any bytes are, or what is wrong with them: the refusals 20, 21 and 22. "Byte 0 is 0x43" or, with occurrences, 0x44;
+    // "bytes 1 to 4 the record number, low byte first; byte 5 the number of entries, 0 to 64".
+    pub fn read(bytes: &'a [u8]) -> Result<Card<'a>, Flaw>
+        ensures read { IfOk result (λ card. (card ≡ bytes.now) × (read_card bytes.now ≡ Ok tt)) }
+        ensures flaw { IfErr result (λ flaw. read_card bytes.now ≡ Err flaw) }
+    {
+        block::read_block(bytes, 0x43, 0x44, 5, 64)?;
+        Ok(Card { bytes })
+    }
 
-// The entries of a well-formed card. An entry is an item of the block: its tag is the index of its parameter, its mark the number of its
-// occurrence (0 on a card without them), and its text its text.
-pub fn entries_of(card: &[u8]) -> Walker<'_>
-    requires { read_card card.now ≡ (Ok tt) }
-    ensures entries { coming entry result ≡ entries_of card.now }
-    ensures block { result.block.now ≡ card.now }
-{
-    Walker {
-        block: card,
-        at: 6,
-        left: card[5],
+    // Its record number.
+    pub fn record_number(&self) -> u32
+        ensures { result ≡ record_number self.now }
+    {
+        block::word(self.bytes, 1)
+    }
+
+    // How many entries it has.
+    pub fn entry_count(&self) -> u8
+        ensures { result ≡ entry_count self.now }
+    {
+        self.bytes[5]
+    }
+
+    // Its entries. An entry is an item of the block: its tag is the index of its parameter, its mark the number of its occurrence (0 on a
+    // card without them), and its text its text.
+    pub fn entries(&self) -> Walker<'a>
+        ensures entries { coming entry result ≡ entries_of self.now }
+        ensures block { result.block.now ≡ self.now }
+        ensures well_formed { read_card self.now ≡ Ok tt }
+    {
+        Walker {
+            block: self.bytes,
+            at: 6,
+            left: self.bytes[5],
+        }
     }
 }

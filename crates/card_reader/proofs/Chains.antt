@@ -94,10 +94,10 @@ entries_length card = items-length entry (entry_count card) card 6
 -- ---- where a chain begins, and where it goes on
 
 module _ (card cells : List ℕ) (spans : List ℤ) (h : KeepsCard card cells spans) (i : ℕ) where
-  pub chain_begins : (n : ℕ) → read_card card ≡ (Ok tt) → i < 32 → IsKept cells i → n ≡ get_or cells i 0 → OnChain card cells i n
-  chain_begins n w l k e =
+  pub chain_begins : (n : ℕ) → i < 32 → IsKept cells i → n ≡ get_or cells i 0 → OnChain card cells i n
+  chain_begins n l k e =
       let top : Last (entries_of card) i (entry_count card) n = subst (Last (entries_of card) i (entry_count card)) (sym e) (h.holds.heads i l k) in
-      record { low = l; kept = k; few = card_few card w; within = top.within; under = top.under }
+      record { low = l; kept = k; few = card_few card h.well_formed; within = top.within; under = top.under }
 
   -- all entries are asked by the chain from its beginning
   pub chain_all : (f : Entry → Bool) (n : ℕ) → i < 32 → IsKept cells i → n ≡ get_or cells i 0 → some_before f i (entries_of card) (length (entries_of card)) ≡ some_before f i (entries_of card) n
@@ -231,12 +231,12 @@ module _ (card cells : List ℕ) (spans : List ℤ) (e : ℕ) (x : Entry) (h : H
     unfolding entry_counts
     entry_not n = rw (sym own ∙ n)
 
-    pub entry_text : r ≡ true → (t : Bool) (start end : ℕ) → start ≡ get_or cells (entry_cell e + 2) 0 → end ≡ get_or cells (entry_cell e + 3) 0 → t ≡ counts_read m v w (part card start end) → t ≡ entry_counts c m v x
+    pub entry_text : r ≡ true → (t : Bool) (start end : ℕ) → start ≡ get_or cells (entry_cell e + 2) 0 → end ≡ get_or cells (entry_cell e + 3) 0 → (b : List ℕ) → b ≡ card → t ≡ counts_read m v w (part b start end) → t ≡ entry_counts c m v x
     unfolding entry_counts
-    entry_text y t start end a b d =
+    entry_text y t start end a b card_bytes same d =
         let same_text : part card start end ≡ part card (get_or cells (entry_cell e + 2) 0) (get_or cells (entry_cell e + 3) 0) = rw (a, b) in
         rw (sym own ∙ y)
-        (once_counts m v w k (part card start end) t d ∙ ap (text_counts m v) (same_text ∙ sym h.text))
+        (once_counts m v w k (part card start end) t (d ∙ ap (λ (k : List ℕ). counts_read m v w (part k start end)) same) ∙ ap (text_counts m v) (same_text ∙ sym h.text))
 
 -- the cell of a parameter
 pub cell_is : (cells : List ℕ) (i j n : ℕ) → j ≡ i → n ≡ get_or cells j 0 → n ≡ get_or cells i 0

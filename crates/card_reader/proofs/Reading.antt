@@ -323,8 +323,8 @@ module _ (kinds card cells₀ cells : List ℕ) (spans : List ℤ) (s : Walker) 
             holds = rw (next, sym same) (tk.adds y card (entries_of card) (rw same inv.holds) (entry_here (entries_of card) n (made entry x) (coming entry t) from-here) (subst (λ (b : List ℕ). x.text.now ≡ part b x.start (x.start + length x.text.now)) inv.block p.text) (omega (arith, p.within, p.size, ap (λ (b : List ℕ). length b) inv.block)));
           }
 
-  pub progress_end : s.left ≡ 0 → (before : List ℕ) → Begun before cells₀ 32 → ReadsCard kinds card before cells spans true
-  progress_end h before b =
+  pub progress_end : read_card card ≡ (Ok tt) → s.left ≡ 0 → (before : List ℕ) → Begun before cells₀ 32 → ReadsCard kinds card before cells spans true
+  progress_end w h before b =
       let all : e ≡ entry_count card = omega (arith, inv.count, h) in
       record {
         answer = walked_end entry (conforms_to kinds) _ s inv.decides h true (conforms_end kinds);
@@ -332,6 +332,7 @@ module _ (kinds card cells₀ cells : List ℕ) (spans : List ℤ) (s : Walker) 
         begins = alike before b inv.begins;
         keeps = λ _.
             record {
+              well_formed = w;
               lent = inv.lent;
               holds = subst (HoldsTo card (entries_of card) cells spans) all inv.holds;
               kept = λ i z y. inv.kept i z (sym (inv.begins.same (544 + i) (omega arith)) ∙ y);

@@ -1,8 +1,8 @@
 -- The lists that have what the texts of a card read to, by entry, and the chains of the entries under each parameter.
 -- Assumes nothing.
-use Rattle.std.specs.Prelude.{ℕ, ◌+◌, ◌*◌, ◌≤◌, ◌<◌, ◌≡◌, ◌⊎◌, Bool, true, List, [], ℤ, pos, length, get_or, take, drop}
+use Rattle.std.specs.Prelude.{ℕ, ◌+◌, ◌*◌, ◌≤◌, ◌<◌, ◌≡◌, ◌⊎◌, Bool, true, List, [], ℤ, pos, length, get_or, take, drop, Ok}
 use Rattle.base.specs.Parts.{part}
-use Rattle.card.specs.Card.{Entry, entry, entries_of, entry_count}
+use Rattle.card.specs.Card.{Entry, entry, entries_of, entry_count, read_card}
 use Rattle.judge.specs.Sets.{conforms_to}
 use Rattle.card_reader.specs.Readings.{Serves, unpacked}
 use Rattle.card_reader.specs.declared.TextReading.{TextReading}
@@ -67,8 +67,9 @@ pub record HoldsTo (card : List ℕ) (es : List Entry) (cells : List ℕ) (spans
   pub heads : (i : ℕ) → i < 32 → IsKept cells i → Last es i n (get_or cells i 0)
   pub behind : (e : ℕ) → e < n → IsKept cells (get_or es e no_entry).index → Last es (get_or es e no_entry).index e (get_or cells (entry_cell e) 0)
 
--- what is kept of a card
+-- what is kept of a well-formed card
 pub record KeepsCard (card cells : List ℕ) (spans : List ℤ) : Type 0 where
+  pub well_formed : read_card card ≡ (Ok tt)
   pub lent : Lent cells spans
   pub holds : HoldsTo card (entries_of card) cells spans (entry_count card)
   pub kept : (i : ℕ) → i < 32 → get_or cells (544 + i) 0 ≡ 0 → IsKept cells i

@@ -1,12 +1,12 @@
 // One pass over a card's entries.
-ghost use Rattle.std.specs.Prelude.{◌≡◌, ◌+◌, ◌<◌, ◌≤◌, length, Ok};
-ghost use Rattle.card.specs.Card.{read_card};
+ghost use Rattle.std.specs.Prelude.{◌≡◌, ◌+◌, ◌<◌, ◌≤◌, length};
 ghost use Rattle.card_reader.specs.Lists.{Lent, ReadsCard};
 ghost use Rattle.card_reader.specs.Storing.{Begun, Takes};
 
 use crate::readings::text_reading;
 use crate::store::store_entry;
 use block::Item;
+use card::Card;
 
 // Brings the parameters' cells to where a card begins.
 fn begin(cells: &mut [u64])
@@ -43,14 +43,13 @@ fn take_entry(kinds: &[u8], cells: &mut [u64], spans: &mut [i64], e: usize, item
 }
 
 // Whether a well-formed card conforms to a sheet with these kinds; where it does, the lists have what is kept of its entries.
-pub fn read_entries(kinds: &[u8], card: &[u8], cells: &mut [u64], spans: &mut [i64]) -> bool
+pub fn read_entries(kinds: &[u8], card: &Card<'_>, cells: &mut [u64], spans: &mut [i64]) -> bool
     requires kinds_len { length kinds.now ≡ 32 }
-    requires card_value { read_card card.now ≡ (Ok tt) }
     requires lent { Lent cells.old spans.old }
     ensures { ReadsCard kinds.now card.now cells.old cells.new spans.new result }
 {
     begin(cells);
-    for (e, item) in card::entries_of(card).enumerate() {
+    for (e, item) in card.entries().enumerate() {
         if !take_entry(kinds, cells, spans, e, item) {
             return false;
         }

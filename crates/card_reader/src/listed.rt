@@ -1,12 +1,13 @@
 // A test judged by the lists of a card: only the entries under its parameter are visited.
-ghost use Rattle.std.specs.Prelude.{◌≡◌, ◌+◌, ◌<◌, ◌≤◌, length, get_or, Ok};
-ghost use Rattle.card.specs.Card.{entries_of, read_card};
+ghost use Rattle.std.specs.Prelude.{◌≡◌, ◌+◌, ◌<◌, ◌≤◌, length, get_or};
+ghost use Rattle.card.specs.Card.{entries_of};
 ghost use Rattle.judge.specs.Once.{readings_for};
 ghost use Rattle.judge.specs.Sets.{values_at, chosen_of, counts};
 ghost use Rattle.judge.specs.Verdicts.{some_value, text_counts};
 ghost use Rattle.card_reader.specs.Lists.{entry_cell, no_entry, reading_at, Holds, IsKept, KeepsCard};
 ghost use Rattle.card_reader.specs.Listed.{entry_counts, OnChain, FirstFrom};
 
+use card::Card;
 use crate::packing::unpacked;
 use crate::related::reading_counts;
 use crate::{Packed, Question, TextReading};
@@ -41,7 +42,7 @@ fn reading_at(cells: &[u64], spans: &[i64], e: usize) -> TextReading
 
 // Whether the entry e counts for a test.
 fn entry_counts(
-    card: &[u8],
+    card: &Card<'_>,
     cells: &[u64],
     spans: &[i64],
     e: usize,
@@ -64,7 +65,7 @@ fn entry_counts(
     let read = reading_at(cells, spans, e);
     reading_counts(
         question.meaning,
-        &card[start..end],
+        &card.bytes[start..end],
         read,
         value,
         question.readings,
@@ -73,7 +74,7 @@ fn entry_counts(
 
 // The first entry of a chain from `from` on that counts, counted from 1, or 0 for none. A chain goes from the last entry to the first.
 pub fn next_counting(
-    card: &[u8],
+    card: &Card<'_>,
     cells: &[u64],
     spans: &[i64],
     chosen: Chosen,
@@ -127,14 +128,13 @@ pub fn occurrence_of(cells: &[u64], e: usize) -> u8
 
 // Whether some text under a parameter whose entries are kept counts for a test, among the entries that count.
 pub fn some_kept(
-    card: &[u8],
+    card: &Card<'_>,
     cells: &[u64],
     spans: &[i64],
     chosen: Chosen,
     question: Question,
     value: &[u8],
 ) -> bool
-    requires card_value { read_card card.now ≡ (Ok tt) }
     requires keeps_card { KeepsCard card.now cells.now spans.now }
     requires index_bound { question.index < 32 }
     requires kept { IsKept cells.now question.index }

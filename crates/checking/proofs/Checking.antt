@@ -113,11 +113,11 @@ count_filter : (ps : List Parameter) (t : Step Tree) → (t >>= λ f. tests_step
 count_filter ps (found f) = count_tests ps f (tests_step ps (tests_of f))
 count_filter ps (stop n p) = refl
 
-module _ (b xs : List ℕ) (r : Result ⊤ Flaw) (e : r ≡ read_sheet b) (c : Result ℕ Refusal) where
-  pub check_sheet : (k : Result ⊤ Flaw) (n : ℕ) → ((ps : List Parameter) → sheet_step k ps ≡ stop n 0) → r ≡ k → counted_answer c ≡ refused n 0 → counted_answer c ≡ check_answer b xs
-  unfolding check_answer accept_inputs accept_sheet
-  check_sheet k n t i h = h ∙ rw (sym e ∙ i, t (parameters_of b))
+module _ (b xs : List ℕ) (c : Result ℕ Refusal) where
+  pub check_refused : (x : Refusal) → accept_sheet b ≡ refusal_step x → counted_answer (Err x) ≡ check_answer b xs
+  unfolding counted_answer refusal_answer check_answer accept_inputs
+  check_refused x h = rw h
 
-  pub check_filter : r ≡ (Ok tt) → counted_answer c ≡ filter_answer (parameters_of b) xs → counted_answer c ≡ check_answer b xs
+  pub check_filter : read_sheet b ≡ (Ok tt) → counted_answer c ≡ filter_answer (parameters_of b) xs → counted_answer c ≡ check_answer b xs
   unfolding check_answer accept_inputs accept_sheet filter_answer
-  check_filter h g = g ∙ rw (sym e ∙ h) (sym (ap answer (count_filter (parameters_of b) (accept_filter xs))))
+  check_filter h g = g ∙ rw h (sym (ap answer (count_filter (parameters_of b) (accept_filter xs))))

@@ -1,7 +1,7 @@
 // Check: a sheet and a filter are read, and the first refusal in the order of the table decides.
 #![tactic(auto)]
 
-ghost use Rattle.std.specs.Prelude.{◌≡◌, Err, Ok};
+ghost use Rattle.std.specs.Prelude.{◌≡◌};
 ghost use Rattle.sheet.specs.Sheet.{parameters_of, read_sheet};
 ghost use Rattle.syntax.specs.Grammar.{deepest, most_tests};
 ghost use Rattle.place.specs.Machine.{failure};
@@ -9,11 +9,12 @@ ghost use Rattle.refusal.specs.Answers.{refused, number_of, refusal_answer, coun
 ghost use Rattle.answer.specs.Passing.{summary_answer};
 ghost use Rattle.answer.specs.Operations.{filter_answer, check_answer};
 
+use answer::accept_sheet;
 use filter::{Summary, check_filter, top};
 use place::find_failure;
 use refusal::{Reason, Refusal};
 use syntax::scan::skip;
-use block::Flaw;
+use sheet::Sheet;
 
 // A refusal as check's answer.
 pub fn refuse(reason: Reason, place: usize) -> Result<usize, Refusal>
@@ -42,8 +43,7 @@ fn no_filter(filter: &[u8]) -> Result<usize, Refusal>
 
 // The filter on a well-formed sheet.
 #[tactic(auto, using(crate::proofs::Checking::text_many, crate::proofs::Checking::text_answered))]
-fn check_text(sheet: &[u8], filter: &[u8]) -> Result<usize, Refusal>
-    requires { read_sheet sheet.now ≡ (Ok tt) }
+fn check_text(sheet: &Sheet<'_>, filter: &[u8]) -> Result<usize, Refusal>
     ensures { counted_answer result ≡ filter_answer (parameters_of sheet.now) filter.now }
 {
     if filter.len() == 0 {
@@ -70,11 +70,6 @@ fn check_text(sheet: &[u8], filter: &[u8]) -> Result<usize, Refusal>
 pub fn check(sheet: &[u8], filter: &[u8]) -> Result<usize, Refusal>
     ensures { counted_answer result ≡ check_answer sheet.now filter.now }
 {
-    let reading = sheet::read_sheet(sheet);
-    match reading {
-        Ok(()) => check_text(sheet, filter),
-        Err(Flaw::Size) => refuse(Reason::SheetSize, 0),
-        Err(Flaw::Sum) => refuse(Reason::SheetSum, 0),
-        Err(Flaw::Layout) => refuse(Reason::SheetLayout, 0),
-    }
+    let sheet = accept_sheet(sheet)?;
+    check_text(&sheet, filter)
 }

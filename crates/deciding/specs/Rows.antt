@@ -2,7 +2,7 @@
 -- Assumes nothing.
 use Rattle.std.specs.Prelude.{ℕ, ◌+◌, ◌≤◌, ◌<◌, ◌≡◌, Bool, true, false, List, [], ◌∷◌, ◌++◌, length, get_or, take, drop, Ok}
 use Rattle.std.proofs.Math.Option.{some}
-use Rattle.card.specs.Card.{Entry, entries_of, read_card}
+use Rattle.card.specs.Card.{Entry, entries_of}
 use Rattle.syntax.specs.Tree.{Tree}
 use Rattle.rows.specs.Expression.{Expression, probing, choosing, joining, negating}
 use Rattle.rows.specs.Cells.{Writable, on_from, stated}
@@ -70,7 +70,6 @@ pub record Room (rows : List ℕ) (first n : ℕ) : Type 0 where
 pub record Judgeable (kinds xs card : List ℕ) : Type 0 where
   pub each_kind : length kinds ≡ 32
   pub short : length xs ≤ 1024
-  pub well_formed : read_card card ≡ (Ok tt)
   pub conforming : conforms_to kinds (entries_of card) ≡ true
 
 -- rows that state an expression, whose tests have room in the list of marks from the number first on

@@ -1,18 +1,19 @@
 // What the tests that rows state say of a card.
-ghost use Rattle.std.specs.Prelude.{◌≡◌, true, ◌≤◌, length, Ok};
-ghost use Rattle.card.specs.Card.{entries_of, read_card};
+ghost use Rattle.std.specs.Prelude.{◌≡◌, true, ◌≤◌, length};
+ghost use Rattle.card.specs.Card.{entries_of};
 ghost use Rattle.judge.specs.Sets.{conforms_to};
 ghost use Rattle.row_judge.specs.Saying.{rows_say, Whole};
 ghost use Rattle.deciding.specs.Deciding.{cell};
 ghost use Rattle.deciding.specs.Rows.{Tells, Room, Judgeable, Markable, FirstMarked, Gathers};
 
+use card::Card;
 use crate::marks::after_first;
 use judge::Chosen;
 use row_judge::say_once;
 use rows::{Row, row_of};
 
 // The mark of what rows say: 1 for yes, 2 for no.
-fn verdict(kinds: &[u8], filter: &[u8], rows: &[u32], card: &[u8]) -> u8
+fn verdict(kinds: &[u8], filter: &[u8], rows: &[u32], card: &Card<'_>) -> u8
     requires judgeable { Judgeable kinds.now filter.now card.now }
     requires whole { Whole rows.now }
     requires rows_len_bound { length rows.now ≤ 320 }
@@ -32,7 +33,7 @@ fn gather_rest(
     kinds: &[u8],
     filter: &[u8],
     rows: &[u32],
-    card: &[u8],
+    card: &Card<'_>,
     marks: &mut [u8],
     first: usize,
     first_end: usize,
@@ -68,7 +69,7 @@ fn gather_from(
     kinds: &[u8],
     filter: &[u8],
     rows: &[u32],
-    card: &[u8],
+    card: &Card<'_>,
     marks: &mut [u8],
     first: usize,
 ) -> usize
@@ -86,14 +87,13 @@ pub fn gather_verdicts(
     kinds: &[u8],
     filter: &[u8],
     rows: &[u32],
-    card: &[u8],
+    card: &Card<'_>,
     marks: &mut [u8],
 ) -> usize
     requires kinds_len { length kinds.now ≡ 32 }
     requires filter_len_bound { length filter.now ≤ 1024 }
     requires whole { Whole rows.now }
     requires rows_len_bound { length rows.now ≤ 320 }
-    requires card_value { read_card card.now ≡ (Ok tt) }
     requires card_value_2 { conforms_to kinds.now (entries_of card.now) ≡ true }
     requires marks_len { length marks.old ≡ 32 }
     requires room { Room rows.now 0 32 }

@@ -2,8 +2,10 @@
 ghost use Rattle.explain.specs.Operations.{Marks, ExplainsInto, Judged};
 
 use base::write_word;
+use card::Card;
 use deciding::{gather_verdicts, spare};
 use refusal::{Reason, Refusal};
+use sheet::Sheet;
 
 // Marks the tests that decide, for rows that state the filter and a card that conforms, of which the filter says `yes`.
 fn mark(
@@ -17,10 +19,11 @@ fn mark(
     requires { Judged sheet.now filter.now rows.now card.now yes }
     ensures { Marks sheet.now filter.now card.now cells.old result cells.new }
 {
-    let kinds = sheet::kinds(sheet);
+    let kinds = Sheet { bytes: sheet }.kinds();
+    let card = Card { bytes: card };
     // a refusal writes nothing, so the marks wait here until the list is known to be long enough
     let mut marks = [0u8; 32];
-    let tests = gather_verdicts(&kinds, filter, rows, card, &mut marks);
+    let tests = gather_verdicts(&kinds, filter, rows, &card, &mut marks);
     if tests > cells.len() {
         return Err(Refusal {
             reason: Reason::ShortMarks,

@@ -1,6 +1,6 @@
 // Reading a filter: its tests are counted, and the first refusal among them is kept.
-ghost use Rattle.std.specs.Prelude.{◌≡◌, Bool, ◌+◌, ◌≤◌, ◌<◌, length, Ok};
-ghost use Rattle.sheet.specs.Sheet.{parameters_of, read_sheet};
+ghost use Rattle.std.specs.Prelude.{◌≡◌, Bool, ◌+◌, ◌≤◌, ◌<◌, length};
+ghost use Rattle.sheet.specs.Sheet.{parameters_of};
 ghost use Rattle.syntax.specs.Placed.{Placed};
 ghost use Rattle.syntax.specs.Scan.{test_of};
 ghost use Rattle.syntax.specs.Tree.{moved};
@@ -11,18 +11,18 @@ ghost use Rattle.filter.specs.Walks.{answer_of};
 
 use crate::{Spot, Summary, Walked};
 use judge::test_fault;
+use sheet::Sheet;
 use syntax::scan::skip;
 use syntax::{Head, RawTest, read_close, read_connective, read_head, read_member};
 
 // One test, with its first byte at a position, where it may be refused.
 pub fn test_summary(
-    sheet: &[u8],
+    sheet: &Sheet<'_>,
     bundle: u8,
     filter: &[u8],
     position: usize,
     test: RawTest,
 ) -> Summary
-    requires sheet_value { read_sheet sheet.now ≡ (Ok tt) }
     requires filter_len_bound { length filter.now ≤ 1024 }
     requires placed { Placed filter.now test }
     ensures { result ≡ (reading (parameters_of sheet.now) bundle).one (moved position (test_of filter.now test)) }
@@ -46,8 +46,7 @@ pub fn join_summaries(a: Summary, b: Summary) -> Summary
 
 // The filter in round brackets at a spot inside them, after not or without.
 #[cycle(checking)]
-fn check_round(sheet: &[u8], filter: &[u8], spot: Spot) -> Option<Walked>
-    requires sheet_value { read_sheet sheet.now ≡ (Ok tt) }
+fn check_round(sheet: &Sheet<'_>, filter: &[u8], spot: Spot) -> Option<Walked>
     requires filter_len_bound { length filter.now ≤ 1024 }
     requires at_in_bounds { spot.at ≤ length filter.now }
     requires close_value { spot.close ≡ round }
@@ -63,8 +62,7 @@ fn check_round(sheet: &[u8], filter: &[u8], spot: Spot) -> Option<Walked>
 // The test of a member at a spot, after the filter in square brackets of the bundle whose name ends at `until`; the levels are those in
 // the brackets.
 #[cycle(checking)]
-fn check_chosen(sheet: &[u8], filter: &[u8], spot: Spot, until: usize) -> Option<Walked>
-    requires sheet_value { read_sheet sheet.now ≡ (Ok tt) }
+fn check_chosen(sheet: &Sheet<'_>, filter: &[u8], spot: Spot, until: usize) -> Option<Walked>
     requires filter_len_bound { length filter.now ≤ 1024 }
     requires at_le_until { spot.at ≤ until }
     requires until_in_bounds { until < length filter.now }
@@ -72,7 +70,7 @@ fn check_chosen(sheet: &[u8], filter: &[u8], spot: Spot, until: usize) -> Option
 {
     let at = spot.at;
     let levels = spot.levels;
-    let inside = sheet::enter(sheet, spot.bundle, &filter[at..until]);
+    let inside = sheet.enter(spot.bundle, &filter[at..until]);
     let next = skip(filter, until + 1);
     let inner = check_filter(
         sheet,
@@ -95,8 +93,7 @@ fn check_chosen(sheet: &[u8], filter: &[u8], spot: Spot, until: usize) -> Option
 // The item at a spot: "a test, a filter in round brackets, or not followed by a filter in round brackets", or the test of a member
 // after its bundle's brackets.
 #[cycle(checking)]
-fn check_item(sheet: &[u8], filter: &[u8], spot: Spot) -> Option<Walked>
-    requires sheet_value { read_sheet sheet.now ≡ (Ok tt) }
+fn check_item(sheet: &Sheet<'_>, filter: &[u8], spot: Spot) -> Option<Walked>
     requires filter_len_bound { length filter.now ≤ 1024 }
     requires at_in_bounds { spot.at ≤ length filter.now }
     ensures { result ≡ answer_of walked (reading (parameters_of sheet.now) spot.bundle) (item_at spot.levels filter.now spot.close spot.at) }
@@ -140,8 +137,7 @@ fn check_item(sheet: &[u8], filter: &[u8], spot: Spot) -> Option<Walked>
 
 // The filter at a spot: "one or more items joined by and or or", from left to right.
 #[cycle(checking)]
-pub fn check_filter(sheet: &[u8], filter: &[u8], spot: Spot) -> Option<Walked>
-    requires sheet_value { read_sheet sheet.now ≡ (Ok tt) }
+pub fn check_filter(sheet: &Sheet<'_>, filter: &[u8], spot: Spot) -> Option<Walked>
     requires filter_len_bound { length filter.now ≤ 1024 }
     requires at_in_bounds { spot.at ≤ length filter.now }
     ensures { result ≡ answer_of walked (reading (parameters_of sheet.now) spot.bundle) (filter_at spot.levels filter.now spot.close spot.at) }

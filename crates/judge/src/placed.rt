@@ -1,7 +1,7 @@
 // Tests as they stand in the filter's text: a value without escapes is judged where it stands, one with escapes in a buffer.
-ghost use Rattle.std.specs.Prelude.{◌≡◌, ◌≤◌, length, Ok};
-ghost use Rattle.sheet.specs.Sheet.{parameters_of, read_sheet};
-ghost use Rattle.card.specs.Card.{entries_of, read_card};
+ghost use Rattle.std.specs.Prelude.{◌≡◌, ◌≤◌, length};
+ghost use Rattle.sheet.specs.Sheet.{parameters_of};
+ghost use Rattle.card.specs.Card.{entries_of};
 ghost use Rattle.syntax.specs.Scan.{test_of};
 ghost use Rattle.syntax.specs.Tree.{moved};
 ghost use Rattle.judge.specs.Faults.{test_fault};
@@ -10,34 +10,33 @@ ghost use Rattle.judge.specs.Sets.{lookup, chosen_of};
 ghost use Rattle.syntax.specs.Placed.{Placed};
 ghost use Rattle.kind.specs.Readable.{is_true};
 
+use card::Card;
 use crate::Chosen;
 use crate::faults::fault_at;
 use crate::values::text_counts;
 use crate::verdicts::says_at;
 use kind::Meaning;
 use refusal::Refusal;
-use sheet::Found;
+use sheet::{Found, Sheet};
 use syntax::RawTest;
 use syntax::value::decode;
 
 // The parameter that a test of the filter names, on a well-formed sheet, looked up in a bundle.
-pub fn test_found(sheet: &[u8], bundle: u8, filter: &[u8], test: RawTest) -> Option<Found>
-    requires sheet_value { read_sheet sheet.now ≡ (Ok tt) }
+pub fn test_found(sheet: &Sheet<'_>, bundle: u8, filter: &[u8], test: RawTest) -> Option<Found>
     requires placed { Placed filter.now test }
     ensures { result ≡ lookup (parameters_of sheet.now) bundle (test_of filter.now test).path }
 {
-    sheet::find(sheet, bundle, &filter[test.at..test.until])
+    sheet.find(bundle, &filter[test.at..test.until])
 }
 
 // What is decided of a test of the filter on a well-formed sheet; its place is given.
 pub fn test_fault(
-    sheet: &[u8],
+    sheet: &Sheet<'_>,
     bundle: u8,
     filter: &[u8],
     place: usize,
     test: RawTest,
 ) -> Result<(), Refusal>
-    requires sheet_value { read_sheet sheet.now ≡ (Ok tt) }
     requires filter_len_bound { length filter.now ≤ 1024 }
     requires placed { Placed filter.now test }
     ensures { result ≡ test_fault (parameters_of sheet.now) bundle (moved place (test_of filter.now test)) }
@@ -54,15 +53,13 @@ pub fn test_fault(
 
 // What a test of the filter says of a well-formed card.
 pub fn test_says(
-    sheet: &[u8],
+    sheet: &Sheet<'_>,
     bundle: u8,
-    card: &[u8],
+    card: &Card<'_>,
     chosen: Chosen,
     filter: &[u8],
     test: RawTest,
 ) -> bool
-    requires sheet_value { read_sheet sheet.now ≡ (Ok tt) }
-    requires card_value { read_card card.now ≡ (Ok tt) }
     requires filter_len_bound { length filter.now ≤ 1024 }
     requires placed { Placed filter.now test }
     ensures { result ≡ test_says (parameters_of sheet.now) bundle (chosen_of chosen (entries_of card.now)) (test_of filter.now test) }

@@ -1,10 +1,11 @@
 // The texts of a card: whether they conform to a sheet, and those under one parameter.
-ghost use Rattle.std.specs.Prelude.{◌≡◌, ◌&&◌, get_or, Ok};
-ghost use Rattle.card.specs.Card.{entries_of, read_card};
+ghost use Rattle.std.specs.Prelude.{◌≡◌, ◌&&◌, get_or};
+ghost use Rattle.card.specs.Card.{entries_of};
 ghost use Rattle.kind.specs.Readable.{card_readable};
 ghost use Rattle.judge.specs.Sets.{values_at, counts, chosen_of, conforms_to};
 ghost use Rattle.judge.specs.Verdicts.{some_value, text_counts};
 
+use card::Card;
 use crate::Chosen;
 use crate::values::text_counts;
 use kind::Meaning;
@@ -21,11 +22,10 @@ fn entry_conforms(kinds: &[u8], index: u8, text: &[u8]) -> bool
 }
 
 // Whether a well-formed card conforms to a sheet with these kinds (01: fits).
-pub fn conforms(kinds: &[u8], card: &[u8]) -> bool
-    requires { read_card card.now ≡ (Ok tt) }
+pub fn conforms(kinds: &[u8], card: &Card<'_>) -> bool
     ensures { result ≡ conforms_to kinds.now (entries_of card.now) }
 {
-    card::entries_of(card).all(|e| entry_conforms(kinds, e.tag, e.text))
+    card.entries().all(|e| entry_conforms(kinds, e.tag, e.text))
 }
 
 // Whether an entry of an occurrence counts, and stands under the parameter, where `same` says that it has its index.
@@ -39,10 +39,9 @@ pub fn is_under(chosen: Chosen, occurrence: u8, same: bool) -> bool
 }
 
 // Whether some text under a parameter counts for a meaning and a value, among the entries that count.
-pub fn some_counts(card: &[u8], chosen: Chosen, index: u8, meaning: Meaning, value: &[u8]) -> bool
-    requires { read_card card.now ≡ (Ok tt) }
+pub fn some_counts(card: &Card<'_>, chosen: Chosen, index: u8, meaning: Meaning, value: &[u8]) -> bool
     ensures { result ≡ some_value (text_counts meaning value.now) (values_at index (chosen_of chosen (entries_of card.now))) }
 {
-    card::entries_of(card).any(|e| is_under(chosen, e.mark, e.tag == index)
+    card.entries().any(|e| is_under(chosen, e.mark, e.tag == index)
         && text_counts(meaning, value, e.text))
 }

@@ -1,17 +1,17 @@
 // What a test says of a card.
-ghost use Rattle.std.specs.Prelude.{◌≡◌, Ok};
-ghost use Rattle.card.specs.Card.{entries_of, read_card};
+ghost use Rattle.std.specs.Prelude.{◌≡◌};
+ghost use Rattle.card.specs.Card.{entries_of};
 ghost use Rattle.judge.specs.Sets.{values_at, chosen_of};
 ghost use Rattle.judge.specs.Verdicts.{some_says, says_of, says_at};
 
+use card::Card;
 use crate::Chosen;
 use crate::sets::some_counts;
 use kind::Meaning;
 use sheet::Found;
 
 // What a test with this meaning and value says of the texts under a parameter.
-pub fn says_of(card: &[u8], chosen: Chosen, index: u8, meaning: Meaning, value: &[u8]) -> bool
-    requires { read_card card.now ≡ (Ok tt) }
+pub fn says_of(card: &Card<'_>, chosen: Chosen, index: u8, meaning: Meaning, value: &[u8]) -> bool
     ensures { result ≡ says_of meaning value.now (values_at index (chosen_of chosen (entries_of card.now))) }
 {
     let some = some_counts(card, chosen, index, meaning, value);
@@ -21,12 +21,11 @@ pub fn says_of(card: &[u8], chosen: Chosen, index: u8, meaning: Meaning, value: 
 // What a test with this operator and value says of a well-formed card, at what its name is on the sheet.
 pub fn says_at(
     found: Option<Found>,
-    card: &[u8],
+    card: &Card<'_>,
     chosen: Chosen,
     operator: u8,
     value: &[u8],
 ) -> bool
-    requires { read_card card.now ≡ (Ok tt) }
     ensures { result ≡ says_at found operator value.now (chosen_of chosen (entries_of card.now)) }
 {
     match found {

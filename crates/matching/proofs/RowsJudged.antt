@@ -85,20 +85,11 @@ module _ (b xs cs card : List ℕ) (ok : read_sheet b ≡ (Ok tt)) (n : length x
 
 -- ---- the sheet
 
-module _ (b xs cs card : List ℕ) (k : Result ⊤ Flaw) (e : k ≡ read_sheet b) (r : Result Bool Refusal) where
-  judge_sheet : (j : Result ⊤ Flaw) (n : ℕ) → ((ps : List Parameter) → sheet_step j ps ≡ stop n 0) → k ≡ j → matched_answer r ≡ refused n 0 → matched_answer r ≡ judge_answer b xs cs card
-  unfolding judge_answer accept_sheet
-  judge_sheet j n t i h = h ∙ rw (sym e ∙ i, t (parameters_of b))
+module _ (b xs cs card : List ℕ) (r : Result Bool Refusal) where
+  pub judge_refused : (x : Refusal) → accept_sheet b ≡ refusal_step x → matched_answer (Err x) ≡ judge_answer b xs cs card
+  unfolding matched_answer refusal_answer judge_answer
+  judge_refused x h = rw h
 
-  pub judge_size : k ≡ (Err Flaw.Size) → matched_answer r ≡ refused (number_of Reason.SheetSize) 0 → matched_answer r ≡ judge_answer b xs cs card
-  judge_size = judge_sheet (Err Flaw.Size) 1 (λ ps. refl)
-
-  pub judge_sum : k ≡ (Err Flaw.Sum) → matched_answer r ≡ refused (number_of Reason.SheetSum) 0 → matched_answer r ≡ judge_answer b xs cs card
-  judge_sum = judge_sheet (Err Flaw.Sum) 2 (λ ps. refl)
-
-  pub judge_layout : k ≡ (Err Flaw.Layout) → matched_answer r ≡ refused (number_of Reason.SheetLayout) 0 → matched_answer r ≡ judge_answer b xs cs card
-  judge_layout = judge_sheet (Err Flaw.Layout) 3 (λ ps. refl)
-
-  pub judge_right : k ≡ (Ok tt) → matched_answer r ≡ rows_answer (parameters_of b) xs cs card → matched_answer r ≡ judge_answer b xs cs card
+  pub judge_right : read_sheet b ≡ (Ok tt) → matched_answer r ≡ rows_answer (parameters_of b) xs cs card → matched_answer r ≡ judge_answer b xs cs card
   unfolding judge_answer accept_sheet rows_answer
-  judge_right i h = h ∙ sym (rw (sym e ∙ i))
+  judge_right i h = h ∙ sym (rw i)

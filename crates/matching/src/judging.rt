@@ -1,13 +1,14 @@
 // Judge: a card under a sheet and rows that are good for a filter's text.
-ghost use Rattle.std.specs.Prelude.{◌≡◌, Err, Ok};
+ghost use Rattle.std.specs.Prelude.{◌≡◌};
 ghost use Rattle.sheet.specs.Sheet.{parameters_of, read_sheet};
 ghost use Rattle.refusal.specs.Answers.{refused, number_of, matched_answer};
 ghost use Rattle.answer.specs.Preparing.{rows_answer, judge_answer};
 
+use answer::accept_sheet;
 use one_card::{answered, judge_once};
 use refusal::{Reason, Refusal};
 use rows::are_good;
-use block::Flaw;
+use sheet::Sheet;
 
 // A refusal at 0 as judge's answer.
 fn refuse(reason: Reason) -> Result<bool, Refusal>
@@ -17,8 +18,7 @@ fn refuse(reason: Reason) -> Result<bool, Refusal>
 }
 
 // The verdict of rows on a card, under a well-formed sheet.
-fn judge_rows(sheet: &[u8], filter: &[u8], rows: &[u32], card: &[u8]) -> Result<bool, Refusal>
-    requires { read_sheet sheet.now ≡ (Ok tt) }
+fn judge_rows(sheet: &Sheet<'_>, filter: &[u8], rows: &[u32], card: &[u8]) -> Result<bool, Refusal>
     ensures { matched_answer result ≡ rows_answer (parameters_of sheet.now) filter.now rows.now card.now }
 {
     if filter.len() == 0 {
@@ -27,8 +27,8 @@ fn judge_rows(sheet: &[u8], filter: &[u8], rows: &[u32], card: &[u8]) -> Result<
     if filter.len() > 1024 {
         return refuse(Reason::FilterSize);
     }
-    let kinds = sheet::kinds(sheet);
-    let parents = sheet::parents(sheet);
+    let kinds = sheet.kinds();
+    let parents = sheet.parents();
     let sound = are_good(&kinds, &parents, filter, rows);
     if sound {
         return answered(judge_once(&kinds, filter, rows, card));
@@ -40,11 +40,6 @@ fn judge_rows(sheet: &[u8], filter: &[u8], rows: &[u32], card: &[u8]) -> Result<
 pub fn judge(sheet: &[u8], filter: &[u8], rows: &[u32], card: &[u8]) -> Result<bool, Refusal>
     ensures { matched_answer result ≡ judge_answer sheet.now filter.now rows.now card.now }
 {
-    let reading = sheet::read_sheet(sheet);
-    match reading {
-        Ok(()) => judge_rows(sheet, filter, rows, card),
-        Err(Flaw::Size) => refuse(Reason::SheetSize),
-        Err(Flaw::Sum) => refuse(Reason::SheetSum),
-        Err(Flaw::Layout) => refuse(Reason::SheetLayout),
-    }
+    let sheet = accept_sheet(sheet)?;
+    judge_rows(&sheet, filter, rows, card)
 }

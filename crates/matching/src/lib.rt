@@ -13,6 +13,7 @@ pub use judging::judge;
 use one_card::{answered, judge_by_text};
 use preparing::prepare;
 use refusal::{Reason, Refusal};
+use sheet::Sheet;
 
 // Prepare's refusal as match's answer. Cells are not handed back: they would be refused as rows that are not good, never answered.
 fn hand_back(prepared: Result<usize, Refusal>) -> Result<bool, Refusal>
@@ -47,8 +48,9 @@ pub fn match_by_text(sheet: &[u8], filter: &[u8], card: &[u8]) -> Result<bool, R
     match checked {
         Err(refusal) => Err(refusal),
         Ok(_) => {
-            let kinds = sheet::kinds(sheet);
-            answered(judge_by_text(sheet, &kinds, filter, card))
+            let sheet = Sheet { bytes: sheet };
+            let kinds = sheet.kinds();
+            answered(judge_by_text(&sheet, &kinds, filter, card))
         }
     }
 }

@@ -1,6 +1,6 @@
 -- Match, as the code comes to its answer.
 -- A law for each way through the code, and no induction. A card is refused for its size, its sum, its layout or as a misfit, or it conforms,
--- in the order of the definition's own choice (`accepts_size` .. `accepts_conforming`). The verdict on a card that conforms is what the question
+-- in the order of the definition's own choice (`accepts_flawed` .. `accepts_conforming`). The verdict on a card that conforms is what the question
 -- says of its entries, and on any other the refusal (`judged_says_lem`, `judged_refused`); by rows for all parameters of these kinds
 -- (`rows_says`). By the text, the tree that the walk reads is the one that check has read (`read-from`), so that the walk's answer is what
 -- the text says (`says_done`). The verdict gives match's answer (`match_answered`).
@@ -8,7 +8,7 @@
 use Rattle.std.specs.Prelude.{Err, Ok, Result, ⊤, Option, Some, None}
 use Prim.Native.Nat.{ℕ, ◌≤◌}
 use native.Mathlib.Omega.{arith}
-use mathlib.Core.Path.{◌≡◌, refl, sym, ap, ap₂, ◌∙◌}
+use mathlib.Core.Path.{◌≡◌, refl, sym, ap, ap₂, subst, ◌∙◌}
 use mathlib.Core.Bool.{Bool, true, false}
 use mathlib.Core.Option.{none, some}
 use mathlib.Core.List.{List}
@@ -65,54 +65,39 @@ module _ (ps : List Parameter) (es : List Entry) (b xs : List ℕ) (p : Passing 
 
 -- ---- one card is accepted
 
-module _ (kinds b : List ℕ) (r : Result ⊤ Flaw) (e : r ≡ read_card b) where
-  accepted_refused : (k : Result ⊤ Flaw) (x : Reason) → ((fits : Bool) (c : Card) (i : ℕ) → card_step k fits c i ≡ stop (number_of x) i) → r ≡ k → AcceptsCard kinds b (Err x)
-  accepted_refused k x t h =
-      record {
-        well_formed = λ z. absurd (let y : ◌≡◌ {A = ℕ} 0 1 = cc in omega arith);
-        steps = λ ps l i. (unfold accept_card in rw (sym e ∙ h, t (conforms ps (entries_of b)) (record { number = record_number b; entries = entries_of b }) i));
-      }
+accepted_refused : (kinds b : List ℕ) (x : Reason) → ((ps : List Parameter) → kinds ≡ kinds_of ps → (i : ℕ) → stop (number_of x) i ≡ accept_card ps i b) → AcceptsCard kinds b (Err x)
+accepted_refused kinds b x t = record { same = λ c z. absurd (refused_not x c z); well_formed = λ c z. absurd (refused_not x c z); steps = t }
+  where
+    refused_not : (x : Reason) (c : List ℕ) → ◌≡◌ {A = Result (List ℕ) Reason} (Err x) (Ok c) → ⊥
+    refused_not x c z = let y : ◌≡◌ {A = ℕ} 0 1 = cc in omega arith
 
-  pub accepts_size : r ≡ (Err Flaw.Size) → AcceptsCard kinds b (Err Reason.CardSize)
-  accepts_size = accepted_refused (Err Flaw.Size) Reason.CardSize (λ fits c i. refl)
+module _ (kinds b : List ℕ) where
+  -- the bytes are no card
+  pub accepts_flawed : (flaw : Flaw) (x : Reason) → read_card b ≡ Err flaw → ((fits : Bool) (c : Card) (i : ℕ) → card_step (Err flaw) fits c i ≡ stop (number_of x) i) → AcceptsCard kinds b (Err x)
+  unfolding accept_card
+  accepts_flawed flaw x h t =
+      accepted_refused kinds b x (λ ps l i. sym (rw (h, t (conforms ps (entries_of b)) (record { number = record_number b; entries = entries_of b }) i)))
 
-  pub accepts_sum : r ≡ (Err Flaw.Sum) → AcceptsCard kinds b (Err Reason.CardSum)
-  accepts_sum = accepted_refused (Err Flaw.Sum) Reason.CardSum (λ fits c i. refl)
-
-  pub accepts_layout : r ≡ (Err Flaw.Layout) → AcceptsCard kinds b (Err Reason.CardLayout)
-  accepts_layout = accepted_refused (Err Flaw.Layout) Reason.CardLayout (λ fits c i. refl)
-
-  pub card-known : r ≡ (Ok tt) → read_card b ≡ (Ok tt)
-  card-known h = sym e ∙ h
-
-  module _ (o : Bool) (g : o ≡ conforms_to kinds (entries_of b)) (h : r ≡ (Ok tt)) where
+  module _ (o : Bool) (g : o ≡ conforms_to kinds (entries_of b)) (h : read_card b ≡ (Ok tt)) where
     fits : (ps : List Parameter) → kinds ≡ kinds_of ps → conforms ps (entries_of b) ≡ o
     fits ps l = sym (g ∙ ap (λ (k : List ℕ). conforms_to k (entries_of b)) l ∙ table_conforms ps (entries_of b))
 
     pub accepts_misfit : o ≡ false → AcceptsCard kinds b (Err Reason.CardMisfit)
-    accepts_misfit n =
-        record {
-          well_formed = λ z. absurd (let y : ◌≡◌ {A = ℕ} 0 1 = cc in omega arith);
-          steps = λ ps l i. (unfold accept_card in rw (sym e ∙ h, fits ps l ∙ n));
-        }
+    accepts_misfit n = accepted_refused kinds b Reason.CardMisfit (λ ps l i. (unfold accept_card in rw (h, fits ps l ∙ n)))
 
-    pub accepts_conforming : o ≡ true → AcceptsCard kinds b (Ok tt)
-    accepts_conforming y =
-        record {
-          well_formed = λ z. sym e ∙ h;
-          steps = λ ps l i. (unfold accept_card in rw (sym e ∙ h, fits ps l ∙ y));
-        }
+    pub accepts_conforming : o ≡ true → AcceptsCard kinds b (Ok b)
+    accepts_conforming y = record { same = λ c z. sym (ok_same z); well_formed = λ c z. h; steps = λ ps l i. (unfold accept_card in rw (h, fits ps l ∙ y)) }
+      where
+        ok_same : {c d : List ℕ} → ◌≡◌ {A = Result (List ℕ) Reason} (Ok c) (Ok d) → c ≡ d
+        ok_same z = cc
 
 -- ---- and judged
 
-module _ (kinds b : List ℕ) (t : Result ⊤ Reason) (e : AcceptsCard kinds b t) where
-  pub conforming_known : t ≡ (Ok tt) → read_card b ≡ (Ok tt)
-  conforming_known h = e.well_formed h
-
+module _ (kinds b : List ℕ) (t : Result (List ℕ) Reason) (e : AcceptsCard kinds b t) where
   module _ (q : Question) (l : kinds ≡ kinds_of q.parameters) where
-    pub judged_says_lem : (v : Bool) → t ≡ (Ok tt) → v ≡ q.says (entries_of b) → (i : ℕ) → found v ≡ card_verdict q i b
+    pub judged_says_lem : (v : Bool) (c : List ℕ) → t ≡ Ok c → v ≡ q.says (entries_of c) → (i : ℕ) → found v ≡ card_verdict q i b
     unfolding card_verdict
-    judged_says_lem v h s i = rw (sym (e.steps q.parameters l i), h, s)
+    judged_says_lem v c h s i = rw (sym (e.steps q.parameters l i), h, s)
 
     pub judged_refused : (x : Reason) → t ≡ Err x → (i : ℕ) → stop (number_of x) i ≡ card_verdict q i b
     unfolding card_verdict
@@ -120,53 +105,51 @@ module _ (kinds b : List ℕ) (t : Result ⊤ Reason) (e : AcceptsCard kinds b t
 
   -- by rows, whatever the parameters of these kinds
   module _ (xs cs : List ℕ) where
-    pub rows_says : (v : Bool) → t ≡ (Ok tt) → v ≡ rows_say kinds xs (chosen_of every (entries_of b)) cs
+    pub rows_says : (v : Bool) (c : List ℕ) → t ≡ Ok c → v ≡ rows_say kinds xs (chosen_of every (entries_of c)) cs
         → (ps : List Parameter) → kinds ≡ kinds_of ps → (i : ℕ) → found v ≡ card_verdict (cells_question ps xs cs) i b
-    rows_says v h s ps l = judged_says_lem (cells_question ps xs cs) l v h (s ∙ ap₂ (λ (k : List ℕ) (es : List Entry). rows_say k xs es cs) l (chosen-every (entries_of b)))
+    rows_says v c h s ps l = judged_says_lem (cells_question ps xs cs) l v c h (s ∙ ap₂ (λ (k : List ℕ) (es : List Entry). rows_say k xs es cs) l (chosen-every (entries_of c)))
 
     pub rows_refused : (x : Reason) → t ≡ Err x → (ps : List Parameter) → kinds ≡ kinds_of ps → (i : ℕ) → stop (number_of x) i ≡ card_verdict (cells_question ps xs cs) i b
     rows_refused x h ps l = judged_refused (cells_question ps xs cs) l x h
 
 -- ---- and what it holds is kept
 
-module _ (kinds b : List ℕ) (r : Result ⊤ Flaw) (e : r ≡ read_card b) (cells : List ℕ) (spans : List ℤ) (l : Lent cells spans) where
-  takes_refused : (x : Reason) → AcceptsCard kinds b (Err x) → TakesCard kinds b cells cells spans (Err x)
-  takes_refused x a = record { accepts = a; lent = l; begins = record { size = refl; same = λ _ _. refl }; keeps = λ z. absurd (let y : ◌≡◌ {A = ℕ} 0 1 = cc in omega arith) }
+module _ (kinds b cells : List ℕ) (spans : List ℤ) (l : Lent cells spans) where
+  -- the bytes are no card
+  pub takes_flawed : (flaw : Flaw) (x : Reason) → read_card b ≡ Err flaw → ((fits : Bool) (c : Card) (i : ℕ) → card_step (Err flaw) fits c i ≡ stop (number_of x) i) → TakesCard kinds b cells cells spans (Err x)
+  takes_flawed flaw x h t =
+      record {
+        accepts = accepts_flawed kinds b flaw x h t;
+        lent = l;
+        begins = record { size = refl; same = λ _ _. refl };
+        keeps = λ c z. absurd (let y : ◌≡◌ {A = ℕ} 0 1 = cc in omega arith);
+      }
 
-  pub takes_size : r ≡ (Err Flaw.Size) → TakesCard kinds b cells cells spans (Err Reason.CardSize)
-  takes_size h = takes_refused Reason.CardSize (accepts_size kinds b r e h)
-
-  pub takes_sum : r ≡ (Err Flaw.Sum) → TakesCard kinds b cells cells spans (Err Reason.CardSum)
-  takes_sum h = takes_refused Reason.CardSum (accepts_sum kinds b r e h)
-
-  pub takes_layout : r ≡ (Err Flaw.Layout) → TakesCard kinds b cells cells spans (Err Reason.CardLayout)
-  takes_layout h = takes_refused Reason.CardLayout (accepts_layout kinds b r e h)
-
-module _ (kinds b : List ℕ) (r : Result ⊤ Flaw) (e : r ≡ read_card b) (h : r ≡ (Ok tt)) (before cells : List ℕ) (spans : List ℤ) (o : Bool) (w : ReadsCard kinds b before cells spans o) where
+module _ (kinds b : List ℕ) (h : read_card b ≡ (Ok tt)) (before cells : List ℕ) (spans : List ℤ) (o : Bool) (w : ReadsCard kinds b before cells spans o) where
   pub takes_misfit : o ≡ false → TakesCard kinds b before cells spans (Err Reason.CardMisfit)
   takes_misfit n =
       record {
-        accepts = accepts_misfit kinds b r e o w.answer h n;
+        accepts = accepts_misfit kinds b o w.answer h n;
         lent = w.lent;
         begins = w.begins;
-        keeps = λ z. absurd (let y : ◌≡◌ {A = ℕ} 0 1 = cc in omega arith);
+        keeps = λ c z. absurd (let y : ◌≡◌ {A = ℕ} 0 1 = cc in omega arith);
       }
 
-  pub takes_conforming : o ≡ true → TakesCard kinds b before cells spans (Ok tt)
-  takes_conforming y = record { accepts = accepts_conforming kinds b r e o w.answer h y; lent = w.lent; begins = w.begins; keeps = λ _. w.keeps y }
+  pub takes_conforming : o ≡ true → TakesCard kinds b before cells spans (Ok b)
+  takes_conforming y = record { accepts = accepts_conforming kinds b o w.answer h y; lent = w.lent; begins = w.begins; keeps = λ _ _. w.keeps y }
 
-module _ (kinds xs rows b before cells : List ℕ) (spans₀ spans : List ℤ) (t : Result ⊤ Reason) (l : LentFor kinds rows before spans₀) (w : TakesCard kinds b before cells spans t) where
+module _ (kinds xs rows b before cells : List ℕ) (spans₀ spans : List ℤ) (t : Result (List ℕ) Reason) (l : LentFor kinds rows before spans₀) (w : TakesCard kinds b before cells spans t) where
   -- the lists stay lent for the rows
   pub taken-lent : LentFor kinds rows cells spans
   taken-lent = lent-on kinds rows before cells spans₀ spans l w.lent w.begins
 
   -- rows that were opened are ready for the card
-  pub taken-ready : (values : List ℕ) (ends : List ℤ) → length xs ≤ 1024 → Whole rows → Opens kinds xs rows values ends (length rows) → t ≡ (Ok tt) → Ready xs rows values ends b cells spans
-  taken-ready values ends h e o c = lent-ready kinds xs rows b cells spans taken-lent values ends h e o (w.accepts.well_formed c) (w.keeps c)
+  pub taken-ready : (values : List ℕ) (ends : List ℤ) → length xs ≤ 1024 → Whole rows → Opens kinds xs rows values ends (length rows) → (c : List ℕ) → t ≡ Ok c → Ready xs rows values ends c cells spans
+  taken-ready values ends h e o c k = subst (λ (d : List ℕ). Ready xs rows values ends d cells spans) (sym (w.accepts.same c k)) (lent-ready kinds xs rows b cells spans taken-lent values ends h e o (w.keeps c k))
 
-  pub taken-says : (v : Bool) → t ≡ (Ok tt) → v ≡ rows_say (kinds_in cells) xs (chosen_of every (entries_of b)) rows
+  pub taken-says : (v : Bool) (c : List ℕ) → t ≡ Ok c → v ≡ rows_say (kinds_in cells) xs (chosen_of every (entries_of c)) rows
       → (ps : List Parameter) → kinds ≡ kinds_of ps → (i : ℕ) → found v ≡ card_verdict (cells_question ps xs rows) i b
-  taken-says v c s = rows_says kinds b t w.accepts xs rows v c (s ∙ ap (λ (k : List ℕ). rows_say k xs (chosen_of every (entries_of b)) rows) taken-lent.kinds_are)
+  taken-says v c h s = rows_says kinds b t w.accepts xs rows v c h (s ∙ ap (λ (k : List ℕ). rows_say k xs (chosen_of every (entries_of c)) rows) taken-lent.kinds_are)
 
   pub taken_refused : (x : Reason) → t ≡ Err x → (ps : List Parameter) → kinds ≡ kinds_of ps → (i : ℕ) → stop (number_of x) i ≡ card_verdict (cells_question ps xs rows) i b
   taken_refused x c = rows_refused kinds b t w.accepts xs rows x c

@@ -1,6 +1,6 @@
 -- One card under a sheet: what the cases of the code's answers state of it, and what rows ask of it.
 -- Assumes nothing.
-use Rattle.std.specs.Prelude.{ℕ, ◌≡◌, Bool, List, ℤ, Err, Ok, Result, ⊤}
+use Rattle.std.specs.Prelude.{ℕ, ◌≡◌, Bool, List, ℤ, Err, Ok, Result}
 use Rattle.sheet.specs.Sheet.{Parameter}
 use Rattle.sheet.specs.Find.{kinds_of}
 use Rattle.card.specs.Card.{record_number, entries_of, read_card}
@@ -14,21 +14,22 @@ use Rattle.refusal.specs.declared.Reason.{Reason}
 -- ---- it is accepted
 
 -- what each case of the code's answer states of the card with the index i
-abbrev pub acceptance_step : Result ⊤ Reason → List ℕ → ℕ → Step Card
-acceptance_step (Ok tt) b i = found (record { number = record_number b; entries = entries_of b })
-acceptance_step (Err r) b i = stop (number_of r) i
+abbrev pub acceptance_step : Result (List ℕ) Reason → ℕ → Step Card
+acceptance_step (Ok b) i = found (record { number = record_number b; entries = entries_of b })
+acceptance_step (Err r) i = stop (number_of r) i
 
--- what accepting a card answers, by the kinds of the sheet
-pub record AcceptsCard (kinds card : List ℕ) (r : Result ⊤ Reason) : Type 0 where
-  pub well_formed : r ≡ (Ok tt) → read_card card ≡ (Ok tt)
-  pub steps : (ps : List Parameter) → kinds ≡ kinds_of ps → (i : ℕ) → acceptance_step r card i ≡ accept_card ps i card
+-- what accepting a card answers, by the kinds of the sheet: the card itself, which is well formed, or why it is refused
+pub record AcceptsCard (kinds card : List ℕ) (r : Result (List ℕ) Reason) : Type 0 where
+  pub same : (b : List ℕ) → r ≡ Ok b → b ≡ card
+  pub well_formed : (b : List ℕ) → r ≡ Ok b → read_card card ≡ (Ok tt)
+  pub steps : (ps : List Parameter) → kinds ≡ kinds_of ps → (i : ℕ) → acceptance_step r i ≡ accept_card ps i card
 
 -- the same, with what is kept of a card that is accepted in lists that were lent
-pub record TakesCard (kinds card before cells : List ℕ) (spans : List ℤ) (r : Result ⊤ Reason) : Type 0 where
+pub record TakesCard (kinds card before cells : List ℕ) (spans : List ℤ) (r : Result (List ℕ) Reason) : Type 0 where
   pub accepts : AcceptsCard kinds card r
   pub lent : Lent cells spans
   pub begins : BeginsAlike before cells
-  pub keeps : r ≡ (Ok tt) → KeepsCard card cells spans
+  pub keeps : (b : List ℕ) → r ≡ Ok b → KeepsCard card cells spans
 
 -- ---- and judged
 

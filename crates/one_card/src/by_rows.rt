@@ -10,30 +10,33 @@ ghost use Rattle.answer.specs.Passing.{card_verdict};
 ghost use Rattle.one_card.specs.OneCard.{verdict_step};
 ghost use Rattle.one_card.specs.OneCard.{cells_question, TakesCard};
 
+use crate::card_reason;
+use card::Card;
 use card_reader::read_entries;
 use judge::Chosen;
 use refusal::Reason;
 use row_judge::{lend_for, rows_say};
 use row_opener::open_rows;
-use block::Flaw;
 
 // Reads a card as accept_card does, and keeps what its entries read to; `kinds` are those of the sheet.
-fn take_card(kinds: &[u8], card: &[u8], cells: &mut [u64], spans: &mut [i64]) -> Result<(), Reason>
+fn take_card<'a>(
+    kinds: &[u8],
+    bytes: &'a [u8],
+    cells: &mut [u64],
+    spans: &mut [i64],
+) -> Result<Card<'a>, Reason>
     requires kinds_len { length kinds.now ≡ 32 }
     requires lent { Lent cells.old spans.old }
-    ensures { TakesCard kinds.now card.now cells.old cells.new spans.new result }
+    ensures { TakesCard kinds.now bytes.now cells.old cells.new spans.new result }
 {
-    let reading = card::read_card(card);
-    match reading {
-        Ok(()) => {
-            if read_entries(kinds, card, cells, spans) {
-                return Ok(());
+    match Card::read(bytes) {
+        Ok(card) => {
+            if read_entries(kinds, &card, cells, spans) {
+                return Ok(card);
             }
             Err(Reason::CardMisfit)
         }
-        Err(Flaw::Size) => Err(Reason::CardSize),
-        Err(Flaw::Sum) => Err(Reason::CardSum),
-        Err(Flaw::Layout) => Err(Reason::CardLayout),
+        Err(flaw) => Err(card_reason(flaw)),
     }
 }
 
@@ -56,14 +59,9 @@ pub fn judge_by_rows(
     ensures i_value { (ps : List Parameter) → kinds.now ≡ kinds_of ps → (i : ℕ) → verdict_step result i ≡ card_verdict (cells_question ps filter.now rows.now) i card.now }
     ensures lent_for_2 { LentFor kinds.now rows.now cells.new spans.new }
 {
-    let accepted = take_card(kinds, card, cells, spans);
-    match accepted {
-        Ok(()) => {
-            let every: Chosen = None;
-            Ok(rows_say(filter, rows, values, ends, card, cells, spans, every))
-        }
-        Err(reason) => Err(reason),
-    }
+    let card = take_card(kinds, card, cells, spans)?;
+    let every: Chosen = None;
+    Ok(rows_say(filter, rows, values, ends, &card, cells, spans, every))
 }
 
 // The same of one card alone: the lists are lent for it.

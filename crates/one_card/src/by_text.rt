@@ -1,22 +1,23 @@
 // The second engine: it walks the filter's text for each card, without rows, and decides as it reads. It is held against the first.
-ghost use Rattle.std.specs.Prelude.{◌≡◌, ℕ, Err, Ok};
+ghost use Rattle.std.specs.Prelude.{◌≡◌, ℕ};
 ghost use Rattle.sheet.specs.Sheet.{parameters_of};
 ghost use Rattle.sheet.specs.Find.{kinds_of};
-ghost use Rattle.card.specs.Card.{entries_of, read_card};
+ghost use Rattle.card.specs.Card.{entries_of};
 ghost use Rattle.syntax.specs.Reader.{read};
 ghost use Rattle.answer.specs.Passing.{Passing, text_says, text_question, card_verdict};
 ghost use Rattle.one_card.specs.OneCard.{verdict_step};
 
+use card::Card;
 use crate::accept_card;
 use filter::top;
 use judge::Chosen;
 use refusal::Reason;
+use sheet::Sheet;
 use text_judge::{Judged, judge_filter};
 
 // What a filter that check has passed says of a well-formed card.
-fn text_says(sheet: &[u8], filter: &[u8], card: &[u8]) -> bool
+fn text_says(sheet: &Sheet<'_>, filter: &[u8], card: &Card<'_>) -> bool
     requires passing { Passing sheet.now filter.now }
-    requires card_value { read_card card.now ≡ (Ok tt) }
     ensures { result ≡ text_says (parameters_of sheet.now) (entries_of card.now) (read filter.now) }
 {
     let spot = top(filter);
@@ -28,14 +29,16 @@ fn text_says(sheet: &[u8], filter: &[u8], card: &[u8]) -> bool
 }
 
 // The verdict of a filter's text on a card, or why the card is refused; `kinds` are those of the sheet.
-pub fn judge_by_text(sheet: &[u8], kinds: &[u8], filter: &[u8], card: &[u8]) -> Result<bool, Reason>
+pub fn judge_by_text(
+    sheet: &Sheet<'_>,
+    kinds: &[u8],
+    filter: &[u8],
+    card: &[u8],
+) -> Result<bool, Reason>
     requires passing { Passing sheet.now filter.now }
     requires kinds_value { kinds.now ≡ kinds_of (parameters_of sheet.now) }
     ensures { (i : ℕ) → verdict_step result i ≡ card_verdict (text_question (parameters_of sheet.now) (read filter.now)) i card.now }
 {
-    let accepted = accept_card(kinds, card);
-    match accepted {
-        Ok(()) => Ok(text_says(sheet, filter, card)),
-        Err(reason) => Err(reason),
-    }
+    let card = accept_card(kinds, card)?;
+    Ok(text_says(sheet, filter, &card))
 }

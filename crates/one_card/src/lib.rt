@@ -4,32 +4,43 @@
 mod by_rows;
 mod by_text;
 
-ghost use Rattle.std.specs.Prelude.{◌≡◌};
+ghost use Rattle.std.specs.Prelude.{◌≡◌, ℕ, Bool, Err};
 ghost use Rattle.one_card.specs.OneCard.{AcceptsCard, verdict_answer};
-ghost use Rattle.refusal.specs.Answers.{matched_answer};
+ghost use Rattle.refusal.specs.Answers.{matched_answer, number_of};
+ghost use Rattle.refusal.specs.Steps.{stop};
+ghost use Rattle.answer.specs.Operations.{Card as Accepted, card_step};
 
+use block::Flaw;
 pub use by_rows::{judge_by_rows, judge_once};
 pub use by_text::judge_by_text;
+use card::Card;
 use judge::conforms;
 use refusal::{Reason, Refusal};
-use block::Flaw;
 
-// Reads a card; `kinds` are those of the sheet.
-#[tactic(auto, using(crate::proofs::Judging::accepts_conforming, crate::proofs::Judging::accepts_misfit))]
-pub fn accept_card(kinds: &[u8], card: &[u8]) -> Result<(), Reason>
-    ensures { AcceptsCard kinds.now card.now result }
+// What is told of bytes that are no card: 20, 21 and 22.
+fn card_reason(flaw: Flaw) -> Reason
+    ensures { (fits : Bool) (card : Accepted) (i : ℕ) → card_step (Err flaw) fits card i ≡ stop (number_of result) i }
 {
-    let reading = card::read_card(card);
-    match reading {
-        Ok(()) => {
-            if conforms(kinds, card) {
-                return Ok(());
+    match flaw {
+        Flaw::Size => Reason::CardSize,
+        Flaw::Sum => Reason::CardSum,
+        Flaw::Layout => Reason::CardLayout,
+    }
+}
+
+// The card that any bytes are, where it conforms, or its refusal; `kinds` are those of the sheet.
+#[tactic(auto, using(crate::proofs::Judging::accepts_conforming, crate::proofs::Judging::accepts_misfit))]
+pub fn accept_card<'a>(kinds: &[u8], bytes: &'a [u8]) -> Result<Card<'a>, Reason>
+    ensures { AcceptsCard kinds.now bytes.now result }
+{
+    match Card::read(bytes) {
+        Ok(card) => {
+            if conforms(kinds, &card) {
+                return Ok(card);
             }
             Err(Reason::CardMisfit)
         }
-        Err(Flaw::Size) => Err(Reason::CardSize),
-        Err(Flaw::Sum) => Err(Reason::CardSum),
-        Err(Flaw::Layout) => Err(Reason::CardLayout),
+        Err(flaw) => Err(card_reason(flaw)),
     }
 }
 

@@ -63,6 +63,10 @@ refused_room r n p e k h =
     let c : count k ≡ refused n p = sym (ap counted_answer h) ∙ e in
     let z : ◌≡◌ {A = ℕ} 0 1 = cc in omega arith
 
+refused_counted : (x : Refusal) → counted_answer (Err x) ≡ refused (number_of x.reason) x.place
+unfolding counted_answer refusal_answer
+refused_counted x = refl
+
 module _ (ps : List Parameter) (xs : List ℕ) (r : Result ℕ Refusal) (buffer : List ℕ) where
   text_refused : (n p : ℕ) → counted_answer r ≡ refused n p → text_rows ps xs ≡ stop n p → FillsText ps xs r buffer
   text_refused n p e s = record { rows = refused_step r buffer n p e ∙ sym s; room = λ k i. absurd (refused_room r n p e k i) }
@@ -180,24 +184,15 @@ rows_filter : (ps : List Parameter) (xs : List ℕ) (t : Step Tree)
 rows_filter ps xs (found f) = rows_tests ps xs f (tests_step ps (tests_of f))
 rows_filter ps xs (stop n p) = refl
 
-module _ (b xs : List ℕ) (k : Result ⊤ Flaw) (e : k ≡ read_sheet b) (r : Result ℕ Refusal) (buffer : List ℕ) where
-  fill_sheet : (j : Result ⊤ Flaw) (n : ℕ) → ((ps : List Parameter) → sheet_step j ps ≡ stop n 0) → k ≡ j → counted_answer r ≡ refused n 0 → Fills b xs r buffer
-  unfolding accept_inputs accept_sheet
-  fill_sheet j n t i h =
-      record { rows = refused_step r buffer n 0 h ∙ sym (rw (sym e ∙ i, t (parameters_of b))); room = λ m q. absurd (refused_room r n 0 h m q) }
+module _ (b xs : List ℕ) (buffer : List ℕ) where
+  pub fill_refused : (x : Refusal) → accept_sheet b ≡ refusal_step x → Fills b xs (Err x) buffer
+  unfolding accept_inputs
+  fill_refused x h =
+      record { rows = refused_step (Err x) buffer (number_of x.reason) x.place (refused_counted x) ∙ sym (rw h); room = λ m q. absurd (refused_room (Err x) (number_of x.reason) x.place (refused_counted x) m q) }
 
-  pub fill_size : k ≡ (Err Flaw.Size) → counted_answer r ≡ refused (number_of Reason.SheetSize) 0 → Fills b xs r buffer
-  fill_size = fill_sheet (Err Flaw.Size) 1 (λ ps. refl)
-
-  pub fill_sum : k ≡ (Err Flaw.Sum) → counted_answer r ≡ refused (number_of Reason.SheetSum) 0 → Fills b xs r buffer
-  fill_sum = fill_sheet (Err Flaw.Sum) 2 (λ ps. refl)
-
-  pub fill_layout : k ≡ (Err Flaw.Layout) → counted_answer r ≡ refused (number_of Reason.SheetLayout) 0 → Fills b xs r buffer
-  fill_layout = fill_sheet (Err Flaw.Layout) 3 (λ ps. refl)
-
-  pub fill_right : k ≡ (Ok tt) → FillsText (parameters_of b) xs r buffer → Fills b xs r buffer
+  pub fill_right : (r : Result ℕ Refusal) → read_sheet b ≡ (Ok tt) → FillsText (parameters_of b) xs r buffer → Fills b xs r buffer
   unfolding accept_inputs accept_sheet text_rows
-  fill_right i f = record { rows = f.rows ∙ sym (rw (sym e ∙ i) (rows_filter (parameters_of b) xs (accept_filter xs))); room = f.room }
+  fill_right r i f = record { rows = f.rows ∙ sym (rw i (rows_filter (parameters_of b) xs (accept_filter xs))); room = f.room }
 
 -- ---- the list
 

@@ -1,21 +1,21 @@
 // Prepare: a sheet and a filter are read, and the rows of the filter are written; the first refusal in the order of the table decides.
 #![tactic(auto)]
 
-ghost use Rattle.std.specs.Prelude.{◌≡◌, length, Err, Ok};
+ghost use Rattle.std.specs.Prelude.{◌≡◌, length};
 ghost use Rattle.sheet.specs.Sheet.{parameters_of, read_sheet};
 ghost use Rattle.syntax.specs.Grammar.{deepest, most_tests};
 ghost use Rattle.place.specs.Machine.{failure};
 ghost use Rattle.refusal.specs.Answers.{refused, number_of, refusal_answer, counted_answer};
 ghost use Rattle.answer.specs.Preparing.{FillsText, Fills, Prepares};
 
-use answer::write;
+use answer::{accept_sheet, write};
 use checking::outcome;
 use filter::top;
 use place::find_failure;
 use refusal::{Reason, Refusal};
 use row_writer::write_filter;
 use syntax::scan::skip;
-use block::Flaw;
+use sheet::Sheet;
 
 // A refusal as prepare's answer.
 fn refuse(reason: Reason, place: usize) -> Result<usize, Refusal>
@@ -32,8 +32,7 @@ fn no_filter(filter: &[u8]) -> Result<usize, Refusal>
 }
 
 // Writes the rows of a filter on a well-formed sheet into a buffer, which has a cell for each byte of the longest filter.
-fn fill_text(sheet: &[u8], filter: &[u8], buffer: &mut [u32]) -> Result<usize, Refusal>
-    requires sheet_value { read_sheet sheet.now ≡ (Ok tt) }
+fn fill_text(sheet: &Sheet<'_>, filter: &[u8], buffer: &mut [u32]) -> Result<usize, Refusal>
     requires buffer_len { length buffer.old ≡ 1024 }
     ensures { FillsText (parameters_of sheet.now) filter.now result buffer.new }
 {
@@ -68,13 +67,8 @@ pub fn fill(sheet: &[u8], filter: &[u8], buffer: &mut [u32]) -> Result<usize, Re
     requires { length buffer.old ≡ 1024 }
     ensures { Fills sheet.now filter.now result buffer.new }
 {
-    let reading = sheet::read_sheet(sheet);
-    match reading {
-        Ok(()) => fill_text(sheet, filter, buffer),
-        Err(Flaw::Size) => refuse(Reason::SheetSize, 0),
-        Err(Flaw::Sum) => refuse(Reason::SheetSum, 0),
-        Err(Flaw::Layout) => refuse(Reason::SheetLayout, 0),
-    }
+    let sheet = accept_sheet(sheet)?;
+    fill_text(&sheet, filter, buffer)
 }
 
 // Writes the rows of a filter into the list, from its first cell, and answers how many cells they fill; or why there is no answer, and

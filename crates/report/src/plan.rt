@@ -4,6 +4,7 @@ ghost use Rattle.report.specs.Operations.{Plans};
 
 use crate::Verdicts;
 use refusal::{Reason, Refusal};
+use sheet::Sheet;
 
 // How many rows there are, how many steps raise them (none on a refusal), and what the report answers.
 #[derive(Clone, Copy)]
@@ -33,7 +34,7 @@ pub fn plan_of(sheet: &[u8], filter: &[u8], cards: &[u8], room: usize) -> Plan
     let selected = sirophan::select(sheet, filter, cards, &mut list);
     match selected {
         Ok(yes) => {
-            let n = sheet::parameter_count(sheet) as usize;
+            let n = usize::from(Sheet { bytes: sheet }.parameter_count());
             if n > room {
                 return refuse(Refusal {
                     reason: Reason::ShortRows,

@@ -1,16 +1,15 @@
 // The rows are raised in steps, one row at each: the first pass over them clears them, and then there is one pass for each card.
-ghost use Rattle.std.specs.Prelude.{◌≡◌, ℕ, ◌<◌, ◌≤◌, ◌%◌, Ok};
-ghost use Rattle.card.specs.Card.{read_card};
+ghost use Rattle.std.specs.Prelude.{◌≡◌, ℕ, ◌<◌, ◌≤◌, ◌%◌};
 ghost use Rattle.report.specs.Steps.{raise, step_index, step_tally, stepped, ValuesOf, Small, Raisable, Ready};
 
+use card::Card;
 use crate::Tally;
 
 // How many values a well-formed card has under a parameter.
-fn values_of(card: &[u8], index: usize) -> u32
-    requires { read_card card.now ≡ (Ok tt) }
+fn values_of(card: &Card<'_>, index: usize) -> u32
     ensures { ValuesOf card.now index result }
 {
-    card::entries_of(card)
+    card.entries()
         .filter(|e| usize::from(e.tag) == index)
         .count() as u32
 }
@@ -52,7 +51,10 @@ fn raised(cards: &[u8], n: usize, j: usize, row: Tally) -> Tally
     }
     let end = 512 * (j / n);
     let start = end - 512;
-    raised_by(values_of(&cards[start..end], j % n), row)
+    let card = Card {
+        bytes: &cards[start..end],
+    };
+    raised_by(values_of(&card, j % n), row)
 }
 
 // The steps, from the first on.

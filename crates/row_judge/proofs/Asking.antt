@@ -74,13 +74,12 @@ lent-on kinds rows before cells spans₀ spans l w a =
 
 -- rows that were opened are ready for a card of which all is kept
 pub lent-ready : (kinds xs rows card cells : List ℕ) (spans : List ℤ) → LentFor kinds rows cells spans → (values : List ℕ) (ends : List ℤ) → length xs ≤ 1024 → Whole rows → Opens kinds xs rows values ends (length rows)
-    → read_card card ≡ (Ok tt) → KeepsCard card cells spans → Ready xs rows values ends card cells spans
-lent-ready kinds xs rows card cells spans l values ends h e o f k =
+    → KeepsCard card cells spans → Ready xs rows values ends card cells spans
+lent-ready kinds xs rows card cells spans l values ends h e o k =
     record {
       short = h;
       whole = e;
       opens = subst (λ (n : List ℕ). Opens n xs rows values ends (length rows)) (sym l.kinds_are) o;
-      well_formed = f;
       keeps = k;
       all_kept = l.all_kept;
     }
@@ -92,8 +91,8 @@ module _ (kinds xs rows card before cells : List ℕ) (spans₀ spans : List ℤ
   read-lent : LentFor kinds rows cells spans
   read-lent = lent-on kinds rows before cells spans₀ spans l w.lent w.begins
 
-  pub read-ready : (values : List ℕ) (ends : List ℤ) → length xs ≤ 1024 → Whole rows → Opens kinds xs rows values ends (length rows) → read_card card ≡ (Ok tt) → r ≡ true → Ready xs rows values ends card cells spans
-  read-ready values ends h e o f y = lent-ready kinds xs rows card cells spans read-lent values ends h e o f (w.keeps y)
+  pub read-ready : (values : List ℕ) (ends : List ℤ) → length xs ≤ 1024 → Whole rows → Opens kinds xs rows values ends (length rows) → r ≡ true → Ready xs rows values ends card cells spans
+  read-ready values ends h e o y = lent-ready kinds xs rows card cells spans read-lent values ends h e o (w.keeps y)
 
   pub read-says : (k : Chosen) (t : Bool) → t ≡ rows_say (kinds_in cells) xs (chosen_of k (entries_of card)) rows → t ≡ rows_say kinds xs (chosen_of k (entries_of card)) rows
   read-says k t e = e ∙ ap (λ (n : List ℕ). rows_say n xs (chosen_of k (entries_of card)) rows) read-lent.kinds_are

@@ -302,8 +302,8 @@ module _ (card cells : List ℕ) (spans : List ℤ) (h : KeepsCard card cells sp
   is_kept : IsKept cells i
   is_kept = h.kept i l z
 
-  pub test_chain : read_card card ≡ (Ok tt) → (from : ℕ) → from ≡ get_or cells i 0 → OnChain card cells i from
-  test_chain w from e = chain_begins card cells spans h i from w l is_kept e
+  pub test_chain : (from : ℕ) → from ≡ get_or cells i 0 → OnChain card cells i from
+  test_chain from e = chain_begins card cells spans h i from l is_kept e
 
   pub test_opened : (xs : List ℕ) (p : Probe) (c : Option Opened) (o : Opened) → c ≡ opened_for (kinds_in cells) xs p → c ≡ Some o → p.index ≡ i → (k : Chosen) (m : Meaning) (kind from first : ℕ) (r : Bool) → kind ≡ get_or (kinds_in cells) i 0
       → m ≡ meaning_of p.operator kind → from ≡ get_or cells i 0 → FirstFrom (entry_counts k m (value_of xs o)) card cells i from first → r ≡ some_says m o.truth (ltb 0 first)
@@ -521,7 +521,6 @@ module _ (kinds xs rows : List ℕ) (k : Chosen) (all : List Entry) where
               row = ap (λ (c : List ℕ). row_of (get_or c 0 0)) part_are ∙ brackets.row;
               whole = record { expression = brackets.expression; states = ap stated (inner_of brackets.first (take n brackets.rest) part_rows part_are) ∙ brackets.states };
               opens = opens_second w.opens (at + 1) (at + 1 + n + 1) (omega arith) bracket_room;
-              well_formed = w.well_formed;
               keeps = w.keeps;
               all_kept = kept_part w.all_kept (at + 1) (at + 1 + n + 1) bracket_room;
             }
@@ -563,7 +562,6 @@ module _ {xs rows values : List ℕ} {ends : List ℤ} {card cells : List ℕ} {
         short = w.short;
         whole = w.whole;
         opens = opens_second w.opens 1 (length rows) w.some_row (omega arith);
-        well_formed = w.well_formed;
         keeps = w.keeps;
         all_kept = kept_part w.all_kept 1 (length rows) (omega arith);
       }
@@ -579,7 +577,7 @@ module _ {xs rows values : List ℕ} {ends : List ℤ} {card cells : List ℕ} {
     bracketed_kept = w.keeps.kept p.index bracketed_index (w.all_kept.each 0 (omega (arith, w.some_row)) p (w.row ∙ ap Row.Test test_is))
 
     pub bracketed_chain : (from : ℕ) → from ≡ get_or cells p.index 0 → OnChain card cells p.index from
-    bracketed_chain from e = chain_begins card cells spans w.keeps p.index from w.well_formed bracketed_index bracketed_kept e
+    bracketed_chain from e = chain_begins card cells spans w.keeps p.index from bracketed_index bracketed_kept e
 
     module _ (c : Option Opened) (h : c ≡ opened_at values ends 0) where
       opened_is : c ≡ opened_for (kinds_in cells) xs p

@@ -3,7 +3,7 @@
 use Rattle.std.specs.Prelude.{ℕ, ◌+◌, ◌-◌, ◌/◌, ◌≤◌, ◌<◌, ◌≡◌, Bool, false, cond, not, ◌&&◌, ◌||◌, List, [], ◌∷◌, eqb, length, get_or, take, drop, ℤ, Option, Some, None, Ok}
 use Rattle.std.proofs.Math.Option as maybe
 use Rattle.std.proofs.Math.Option.{none, some}
-use Rattle.card.specs.Card.{Entry, read_card}
+use Rattle.card.specs.Card.{Entry}
 use Rattle.syntax.specs.Scan.{value_at}
 use Rattle.syntax.specs.declared.Connective.{Connective}
 use Rattle.syntax.specs.declared.RawValue.{RawValue}
@@ -59,7 +59,6 @@ pub record Ready (xs rows values : List ℕ) (ends : List ℤ) (card cells : Lis
   pub short : length xs ≤ 1024
   pub whole : Whole rows
   pub opens : Opens (kinds_in cells) xs rows values ends (length rows)
-  pub well_formed : read_card card ≡ (Ok tt)
   pub keeps : KeepsCard card cells spans
   pub all_kept : AllKept rows cells
 
@@ -71,7 +70,6 @@ pub record Bracketed (xs rows values : List ℕ) (ends : List ℤ) (card cells :
   pub row : row_of (get_or rows 0 0) ≡ Row.Test test
   pub whole : Whole (take (length rows - 1) (drop 1 rows))
   pub opens : Opens (kinds_in cells) xs rows values ends (length rows)
-  pub well_formed : read_card card ≡ (Ok tt)
   pub keeps : KeepsCard card cells spans
   pub all_kept : AllKept rows cells
 

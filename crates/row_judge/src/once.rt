@@ -1,10 +1,11 @@
 // Rows that are judged on one card alone.
-ghost use Rattle.std.specs.Prelude.{◌≡◌, true, ◌≤◌, length, Ok};
-ghost use Rattle.card.specs.Card.{entries_of, read_card};
+ghost use Rattle.std.specs.Prelude.{◌≡◌, true, ◌≤◌, length};
+ghost use Rattle.card.specs.Card.{entries_of};
 ghost use Rattle.judge.specs.Sets.{chosen_of, conforms_to};
 ghost use Rattle.row_opener.specs.Opening.{Opens};
 ghost use Rattle.row_judge.specs.Saying.{rows_say, Whole};
 
+use card::Card;
 use crate::asks::lend_for;
 use crate::says::rows_say;
 use card_reader::read_entries;
@@ -18,14 +19,13 @@ fn say_opened(
     rows: &[u32],
     values: &[u64],
     ends: &[i64],
-    card: &[u8],
+    card: &Card<'_>,
     chosen: Chosen,
 ) -> bool
     requires kinds_len { length kinds.now ≡ 32 }
     requires filter_len_bound { length filter.now ≤ 1024 }
     requires whole { Whole rows.now }
     requires opens { Opens kinds.now filter.now rows.now values.now ends.now (length rows.now) }
-    requires card_value { read_card card.now ≡ (Ok tt) }
     requires card_value_2 { conforms_to kinds.now (entries_of card.now) ≡ true }
     ensures { result ≡ rows_say kinds.now filter.now (chosen_of chosen (entries_of card.now)) rows.now }
 {
@@ -37,12 +37,11 @@ fn say_opened(
 }
 
 // The same of rows that are opened for this card; good rows are that few.
-pub fn say_once(kinds: &[u8], filter: &[u8], rows: &[u32], card: &[u8], chosen: Chosen) -> bool
+pub fn say_once(kinds: &[u8], filter: &[u8], rows: &[u32], card: &Card<'_>, chosen: Chosen) -> bool
     requires kinds_len { length kinds.now ≡ 32 }
     requires filter_len_bound { length filter.now ≤ 1024 }
     requires whole { Whole rows.now }
     requires rows_len_bound { length rows.now ≤ 320 }
-    requires card_value { read_card card.now ≡ (Ok tt) }
     requires card_value_2 { conforms_to kinds.now (entries_of card.now) ≡ true }
     ensures { result ≡ rows_say kinds.now filter.now (chosen_of chosen (entries_of card.now)) rows.now }
 {

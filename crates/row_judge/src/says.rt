@@ -1,8 +1,8 @@
 // What rows that were opened say of a card. They are read from left to right with one verdict in hand: a test sets it, not turns it round,
 // and a join whose first part decides it leaves the rows of its second part out; else the second part's verdict is the join's. The rows in
 // a test's brackets are judged for each occurrence by itself. The card was read: a test goes along the entries of its own parameter.
-ghost use Rattle.std.specs.Prelude.{◌≡◌, false, ◌+◌, ◌≤◌, ◌<◌, length, get_or, Ok};
-ghost use Rattle.card.specs.Card.{entries_of, read_card};
+ghost use Rattle.std.specs.Prelude.{◌≡◌, false, ◌+◌, ◌≤◌, ◌<◌, length, get_or};
+ghost use Rattle.card.specs.Card.{entries_of};
 ghost use Rattle.syntax.specs.Scan.{decode as decoded};
 ghost use Rattle.judge.specs.Once.{readings_for};
 ghost use Rattle.judge.specs.Sets.{chosen_of};
@@ -11,6 +11,7 @@ ghost use Rattle.card_reader.specs.Listed.{entry_counts, OnChain, FirstFrom};
 ghost use Rattle.row_judge.specs.Saying.{probe_says, rows_say, Ready, Bracketed, skipped, bracket_says};
 ghost use Rattle.row_opener.specs.Opening.{Known, value_of, opened_for};
 
+use card::Card;
 use crate::Asked;
 use card_reader::{Question, chain_behind, chain_of, kind_at, next_counting, occurrence_of};
 use judge::{Chosen, some_says};
@@ -42,7 +43,7 @@ fn skipped(connective: Connective, first: bool, size: usize) -> usize
 // The first entry of a chain that counts for a value that has escapes.
 fn next_escaped(
     raw: &[u8],
-    card: &[u8],
+    card: &Card<'_>,
     cells: &[u64],
     spans: &[i64],
     chosen: Chosen,
@@ -63,7 +64,7 @@ fn next_escaped(
 // The first entry of a chain that counts for a test.
 fn next_text(
     filter: &[u8],
-    card: &[u8],
+    card: &Card<'_>,
     cells: &[u64],
     spans: &[i64],
     chosen: Chosen,
@@ -92,7 +93,7 @@ fn next_text(
 // What a test without brackets says of the entries that count.
 fn plain_says(
     filter: &[u8],
-    card: &[u8],
+    card: &Card<'_>,
     cells: &[u64],
     spans: &[i64],
     chosen: Chosen,
@@ -100,7 +101,6 @@ fn plain_says(
     value: Option<Opened>,
 ) -> bool
     requires filter_len_bound { length filter.now ≤ 1024 }
-    requires card_value { read_card card.now ≡ (Ok tt) }
     requires keeps_card { KeepsCard card.now cells.now spans.now }
     requires index_bound { probe.index < 32 }
     requires index_value { get_or cells.now (544 + probe.index) 0 ≡ 0 }
@@ -130,7 +130,7 @@ fn bracket_says(
     rows: &[u32],
     values: &[u64],
     ends: &[i64],
-    card: &[u8],
+    card: &Card<'_>,
     cells: &[u64],
     spans: &[i64],
     chosen: Chosen,
@@ -179,7 +179,7 @@ pub fn rows_say(
     rows: &[u32],
     values: &[u64],
     ends: &[i64],
-    card: &[u8],
+    card: &Card<'_>,
     cells: &[u64],
     spans: &[i64],
     chosen: Chosen,

@@ -1,7 +1,7 @@
 // Reading a filter: its rows are written, its tests are counted, and the first refusal among them is kept. A filter and an item call
 // each other, and the text left and the nesting left fall.
-ghost use Rattle.std.specs.Prelude.{◌≡◌, ◌+◌, ◌≤◌, ◌<◌, length, Ok};
-ghost use Rattle.sheet.specs.Sheet.{parameters_of, read_sheet};
+ghost use Rattle.std.specs.Prelude.{◌≡◌, ◌+◌, ◌≤◌, ◌<◌, length};
+ghost use Rattle.sheet.specs.Sheet.{parameters_of};
 ghost use Rattle.syntax.specs.Placed.{Placed};
 ghost use Rattle.syntax.specs.Scan.{test_of};
 ghost use Rattle.syntax.specs.Grammar.{round};
@@ -13,7 +13,7 @@ use crate::{Outcome, Written};
 use filter::{Spot, Summary, join_summaries, test_summary};
 use judge::test_found;
 use rows::Row;
-use sheet::Found;
+use sheet::{Found, Sheet};
 use syntax::scan::skip;
 use syntax::{
     Connective, Head, RawTest, RawValue, read_close, read_connective, read_head, read_member,
@@ -39,8 +39,7 @@ fn value_place(filter: &[u8], test: RawTest) -> u32
 }
 
 // The number of a test of the filter, looked up in a bundle.
-fn test_number(sheet: &[u8], bundle: u8, filter: &[u8], test: RawTest) -> u32
-    requires sheet_value { read_sheet sheet.now ≡ (Ok tt) }
+fn test_number(sheet: &Sheet<'_>, bundle: u8, filter: &[u8], test: RawTest) -> u32
     requires filter_len_bound { length filter.now ≤ 1024 }
     requires placed { Placed filter.now test }
     requires read { Read filter.now test }
@@ -54,14 +53,13 @@ fn test_number(sheet: &[u8], bundle: u8, filter: &[u8], test: RawTest) -> u32
 
 // The row of a test, with what is gathered of it.
 fn write_test(
-    sheet: &[u8],
+    sheet: &Sheet<'_>,
     filter: &[u8],
     bundle: u8,
     test: RawTest,
     rows: &mut [u32],
     row: usize,
 ) -> Written
-    requires sheet_value { read_sheet sheet.now ≡ (Ok tt) }
     requires filter_len_bound { length filter.now ≤ 1024 }
     requires placed { Placed filter.now test }
     requires read { Read filter.now test }
@@ -113,14 +111,13 @@ fn close_round(
 // The filter in round brackets at a spot inside them, after not where `negate` says so. Its cells are written from a row on.
 #[cycle(writing)]
 fn write_round(
-    sheet: &[u8],
+    sheet: &Sheet<'_>,
     filter: &[u8],
     spot: Spot,
     negate: bool,
     rows: &mut [u32],
     row: usize,
 ) -> Option<Written>
-    requires sheet_value { read_sheet sheet.now ≡ (Ok tt) }
     requires room { Room filter.now rows.old row spot.at }
     requires close_value { spot.close ≡ round }
     requires row_lt_at { row < spot.at }
@@ -140,14 +137,13 @@ fn bracket_cell(size: usize) -> u32
 }
 
 // The spot in the square brackets of the bundle whose name begins at a spot and ends at `until`.
-fn inside_of(sheet: &[u8], filter: &[u8], spot: Spot, until: usize) -> Spot
-    requires sheet_value { read_sheet sheet.now ≡ (Ok tt) }
+fn inside_of(sheet: &Sheet<'_>, filter: &[u8], spot: Spot, until: usize) -> Spot
     requires at_le_until { spot.at ≤ until }
     requires until_in_bounds { until < length filter.now }
     ensures { Inside (parameters_of sheet.now) filter.now spot until result }
 {
     let at = spot.at;
-    let bundle = sheet::enter(sheet, spot.bundle, &filter[at..until]);
+    let bundle = sheet.enter(spot.bundle, &filter[at..until]);
     Spot {
         at: skip(filter, until + 1),
         levels: spot.levels,
@@ -159,7 +155,7 @@ fn inside_of(sheet: &[u8], filter: &[u8], spot: Spot, until: usize) -> Spot
 // The rows of brackets and of the test of a member behind them, before the rows in the brackets, which are written; `at` is where the
 // bundle's name begins.
 fn write_pair(
-    sheet: &[u8],
+    sheet: &Sheet<'_>,
     filter: &[u8],
     bundle: u8,
     at: usize,
@@ -168,7 +164,6 @@ fn write_pair(
     rows: &mut [u32],
     row: usize,
 ) -> Written
-    requires sheet_value { read_sheet sheet.now ≡ (Ok tt) }
     requires filter_len_bound { length filter.now ≤ 1024 }
     requires placed { Placed filter.now test }
     requires read { Read filter.now test }
@@ -194,7 +189,7 @@ fn write_pair(
 // The test of a member behind the filter in its bundle's brackets, which was read and has its rows written; the bundle's name begins at a
 // spot.
 fn write_member(
-    sheet: &[u8],
+    sheet: &Sheet<'_>,
     filter: &[u8],
     spot: Spot,
     bundle: u8,
@@ -202,7 +197,6 @@ fn write_member(
     rows: &mut [u32],
     row: usize,
 ) -> Option<Written>
-    requires sheet_value { read_sheet sheet.now ≡ (Ok tt) }
     requires filter_len_bound { length filter.now ≤ 1024 }
     requires end_in_bounds { inner.end ≤ length filter.now }
     requires cells_in_bounds { row + inner.outcome.cells + 1 < length rows.old }
@@ -219,14 +213,13 @@ fn write_member(
 // the brackets. The cells of both are written from a row on: those of the brackets and of the test are filled in afterwards.
 #[cycle(writing)]
 fn write_chosen(
-    sheet: &[u8],
+    sheet: &Sheet<'_>,
     filter: &[u8],
     spot: Spot,
     until: usize,
     rows: &mut [u32],
     row: usize,
 ) -> Option<Written>
-    requires sheet_value { read_sheet sheet.now ≡ (Ok tt) }
     requires room { Room filter.now rows.old row spot.at }
     requires at_lt_until { spot.at < until }
     requires until_in_bounds { until < length filter.now }
@@ -241,13 +234,12 @@ fn write_chosen(
 // after its bundle's brackets. Its cells are written from a row on.
 #[cycle(writing)]
 fn write_item(
-    sheet: &[u8],
+    sheet: &Sheet<'_>,
     filter: &[u8],
     spot: Spot,
     rows: &mut [u32],
     row: usize,
 ) -> Option<Written>
-    requires sheet_value { read_sheet sheet.now ≡ (Ok tt) }
     requires room { Room filter.now rows.old row spot.at }
     ensures { WroteItem sheet.now filter.now spot row result rows.old rows.new }
 {
@@ -321,14 +313,13 @@ fn write_join(
 // filled in behind its item.
 #[cycle(writing)]
 fn write_rest(
-    sheet: &[u8],
+    sheet: &Sheet<'_>,
     filter: &[u8],
     spot: Spot,
     rows: &mut [u32],
     row: usize,
     first: Written,
 ) -> Option<Written>
-    requires sheet_value { read_sheet sheet.now ≡ (Ok tt) }
     requires chained_at { ChainedAt sheet.now filter.now spot row rows.old first.end first.outcome rows.old }
     ensures { WroteFilter sheet.now filter.now spot row result rows.old rows.new }
 {
@@ -350,13 +341,12 @@ fn write_rest(
 // The filter at a spot: "one or more items joined by and or or", from left to right. Its cells are written from a row on.
 #[cycle(writing)]
 pub fn write_filter(
-    sheet: &[u8],
+    sheet: &Sheet<'_>,
     filter: &[u8],
     spot: Spot,
     rows: &mut [u32],
     row: usize,
 ) -> Option<Written>
-    requires sheet_value { read_sheet sheet.now ≡ (Ok tt) }
     requires room { Room filter.now rows.old row spot.at }
     ensures { WroteFilter sheet.now filter.now spot row result rows.old rows.new }
 {

@@ -1,7 +1,7 @@
 // What is decided of an alternative on a sheet, whatever the card.
-ghost use Rattle.std.specs.Prelude.{◌≡◌, cond, eqb, length, Ok};
+ghost use Rattle.std.specs.Prelude.{◌≡◌, cond, eqb, length};
 ghost use Rattle.base.specs.Kinds.{bundle_kind};
-ghost use Rattle.sheet.specs.Sheet.{parameters_of, read_sheet};
+ghost use Rattle.sheet.specs.Sheet.{parameters_of};
 ghost use Rattle.sheet.specs.Find.{find};
 ghost use Rattle.refusal.specs.Decisions.{refuse};
 ghost use Rattle.search.specs.Meaning.{text_fault, fault_at, alternative_fault, first_alternative_fault};
@@ -11,7 +11,7 @@ use crate::asked::asked_of;
 use base::kind::{BUNDLE, TOKEN};
 use query::{Row, Rows};
 use refusal::{Reason, Refusal, refuse};
-use sheet::Found;
+use sheet::{Found, Sheet};
 
 // What is decided of a text under a kind, at the place of its pair: 16 or 17.
 fn text_fault(kind: u8, split: usize, text: &[u8], place: usize) -> Result<(), Refusal>
@@ -40,24 +40,22 @@ fn parameter_fault(kind: u8, split: usize, text: &[u8], place: usize) -> Result<
 
 // The same under a name, on a well-formed sheet.
 fn fault_at(
-    sheet: &[u8],
+    sheet: &Sheet<'_>,
     name: &[u8],
     split: usize,
     text: &[u8],
     place: usize,
 ) -> Result<(), Refusal>
-    requires { read_sheet sheet.now ≡ (Ok tt) }
     ensures { result ≡ fault_at (find 0 name.now (parameters_of sheet.now)) split text.now place }
 {
-    match sheet::find(sheet, 0, name) {
+    match sheet.find(0, name) {
         Some(found) => parameter_fault(found.kind, split, text, place),
         None => refuse(Reason::UnknownName, place),
     }
 }
 
 // What is decided of the alternative that a row keeps.
-fn row_fault(sheet: &[u8], bytes: &[u8], row: Row) -> Result<(), Refusal>
-    requires sheet_value { read_sheet sheet.now ≡ (Ok tt) }
+fn row_fault(sheet: &Sheet<'_>, bytes: &[u8], row: Row) -> Result<(), Refusal>
     requires row_within { RowWithin (length bytes.now) row }
     ensures { result ≡ alternative_fault (parameters_of sheet.now) (alternative_in bytes.now row) }
 {
@@ -75,8 +73,7 @@ fn row_fault(sheet: &[u8], bytes: &[u8], row: Row) -> Result<(), Refusal>
 }
 
 // What the first alternative of a query that is refused comes to: the first byte of its pair is its place.
-pub fn first_fault(sheet: &[u8], bytes: &[u8], rows: Rows) -> Result<(), Refusal>
-    requires sheet_value { read_sheet sheet.now ≡ (Ok tt) }
+pub fn first_fault(sheet: &Sheet<'_>, bytes: &[u8], rows: Rows) -> Result<(), Refusal>
     requires rows_within { RowsWithin (length bytes.now) rows }
     ensures { result ≡ first_alternative_fault (parameters_of sheet.now) (alternatives_in bytes.now rows) }
 {

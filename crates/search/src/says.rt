@@ -1,9 +1,9 @@
 // What a query says of a card: pairs, all to be met, each by some alternative.
-ghost use Rattle.std.specs.Prelude.{◌≡◌, not, ◌&&◌, ◌||◌, length, Ok};
+ghost use Rattle.std.specs.Prelude.{◌≡◌, not, ◌&&◌, ◌||◌, length};
 ghost use Rattle.token.specs.Match.{matches_at};
-ghost use Rattle.sheet.specs.Sheet.{parameters_of, read_sheet};
+ghost use Rattle.sheet.specs.Sheet.{parameters_of};
 ghost use Rattle.sheet.specs.Find.{find};
-ghost use Rattle.card.specs.Card.{entries_of, read_card};
+ghost use Rattle.card.specs.Card.{entries_of};
 ghost use Rattle.judge.specs.Sets.{values_at};
 ghost use Rattle.judge.specs.Verdicts.{some_value};
 ghost use Rattle.search.specs.Meaning.{text_says, says_at, alternative_says};
@@ -11,20 +11,20 @@ ghost use Rattle.query.specs.Rows.{alternative_in, rows_say, RowWithin, RowsWith
 
 use crate::asked::asked_of;
 use base::kind::TOKEN;
+use card::Card;
 use judge::Chosen;
 use query::{Row, Rows};
+use sheet::Sheet;
 
 // Whether some text under a parameter is a token that is asked for.
-fn some_token(card: &[u8], index: u8, split: usize, asked: &[u8]) -> bool
-    requires { read_card card.now ≡ (Ok tt) }
+fn some_token(card: &Card<'_>, index: u8, split: usize, asked: &[u8]) -> bool
     ensures { result ≡ some_value (λ x. matches_at x split asked.now) (values_at index (entries_of card.now)) }
 {
-    card::entries_of(card).any(|e| e.tag == index && token::matches_at(e.text, split, asked))
+    card.entries().any(|e| e.tag == index && token::matches_at(e.text, split, asked))
 }
 
 // What a text says of the texts under a parameter of a kind.
-fn text_says(card: &[u8], index: u8, kind: u8, split: usize, text: &[u8]) -> bool
-    requires { read_card card.now ≡ (Ok tt) }
+fn text_says(card: &Card<'_>, index: u8, kind: u8, split: usize, text: &[u8]) -> bool
     ensures { result ≡ text_says kind split text.now (values_at index (entries_of card.now)) }
 {
     if kind == TOKEN {
@@ -43,21 +43,17 @@ fn text_says(card: &[u8], index: u8, kind: u8, split: usize, text: &[u8]) -> boo
 }
 
 // What a text under a name says of a well-formed card.
-fn says_at(sheet: &[u8], card: &[u8], name: &[u8], split: usize, text: &[u8]) -> bool
-    requires sheet_value { read_sheet sheet.now ≡ (Ok tt) }
-    requires card_value { read_card card.now ≡ (Ok tt) }
+fn says_at(sheet: &Sheet<'_>, card: &Card<'_>, name: &[u8], split: usize, text: &[u8]) -> bool
     ensures { result ≡ says_at (find 0 name.now (parameters_of sheet.now)) split text.now (entries_of card.now) }
 {
-    match sheet::find(sheet, 0, name) {
+    match sheet.find(0, name) {
         Some(found) => text_says(card, found.index, found.kind, split, text),
         None => false,
     }
 }
 
 // What the alternative that a row keeps says, or true where its pair is met already.
-fn row_says(met: bool, sheet: &[u8], card: &[u8], bytes: &[u8], row: Row) -> bool
-    requires sheet_value { read_sheet sheet.now ≡ (Ok tt) }
-    requires card_value { read_card card.now ≡ (Ok tt) }
+fn row_says(met: bool, sheet: &Sheet<'_>, card: &Card<'_>, bytes: &[u8], row: Row) -> bool
     requires row_within { RowWithin (length bytes.now) row }
     ensures { result ≡ (met || alternative_says (parameters_of sheet.now) (entries_of card.now) (alternative_in bytes.now row)) }
 {
@@ -98,9 +94,7 @@ fn carried(last: bool, said: bool) -> bool
 }
 
 // What the query that rows keep says of a well-formed card.
-pub fn rows_say(sheet: &[u8], card: &[u8], bytes: &[u8], rows: Rows) -> bool
-    requires sheet_value { read_sheet sheet.now ≡ (Ok tt) }
-    requires card_value { read_card card.now ≡ (Ok tt) }
+pub fn rows_say(sheet: &Sheet<'_>, card: &Card<'_>, bytes: &[u8], rows: Rows) -> bool
     requires rows_within { RowsWithin (length bytes.now) rows }
     ensures { result ≡ rows_say (alternative_says (parameters_of sheet.now) (entries_of card.now)) bytes.now rows }
 {

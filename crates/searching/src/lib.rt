@@ -1,7 +1,7 @@
 // Check and match by a search string. Its alternatives are kept in rows over a buffer of decoded bytes, once for all cards.
 #![tactic(auto)]
 
-ghost use Rattle.std.specs.Prelude.{◌≡◌, ℕ, ◌≤◌, length, Err, Ok};
+ghost use Rattle.std.specs.Prelude.{◌≡◌, ℕ, ◌≤◌, length};
 ghost use Rattle.sheet.specs.Sheet.{parameters_of, read_sheet};
 ghost use Rattle.sheet.specs.Find.{kinds_of};
 ghost use Rattle.query.specs.Rows.{RowsWithin};
@@ -11,15 +11,15 @@ ghost use Rattle.answer.specs.Searching.{check_search_answer, match_search_answe
 ghost use Rattle.searching.specs.SearchPassing.{rows_question, PassesRows, ReadsRows};
 ghost use Rattle.refusal.specs.Answers.{counted_answer, matched_answer};
 
+use answer::accept_sheet;
 use one_card::{accept_card, answered};
 use query::{Rows, accept_query};
 use refusal::{Reason, Refusal};
 use search::{first_fault, rows_say};
-use block::Flaw;
+use sheet::Sheet;
 
 // Passes the rows of a search string on a well-formed sheet, where none of their alternatives is refused.
-fn check_rows(sheet: &[u8], bytes: &[u8], rows: Rows) -> Result<Rows, Refusal>
-    requires sheet_value { read_sheet sheet.now ≡ (Ok tt) }
+fn check_rows(sheet: &Sheet<'_>, bytes: &[u8], rows: Rows) -> Result<Rows, Refusal>
     requires rows_within { RowsWithin (length bytes.now) rows }
     ensures { PassesRows (parameters_of sheet.now) bytes.now rows result }
 {
@@ -28,8 +28,7 @@ fn check_rows(sheet: &[u8], bytes: &[u8], rows: Rows) -> Result<Rows, Refusal>
 }
 
 // A search string on a well-formed sheet.
-fn read_text(sheet: &[u8], text: &[u8], bytes: &mut [u8]) -> Result<Rows, Refusal>
-    requires sheet_value { read_sheet sheet.now ≡ (Ok tt) }
+fn read_text(sheet: &Sheet<'_>, text: &[u8], bytes: &mut [u8]) -> Result<Rows, Refusal>
     requires in_bounds { 1024 ≤ length bytes.old }
     ensures { ReadsRows sheet.now text.now bytes.new result }
 {
@@ -42,22 +41,8 @@ pub fn read_search(sheet: &[u8], text: &[u8], bytes: &mut [u8]) -> Result<Rows, 
     requires { 1024 ≤ length bytes.old }
     ensures { ReadsRows sheet.now text.now bytes.new result }
 {
-    let reading = sheet::read_sheet(sheet);
-    match reading {
-        Ok(()) => read_text(sheet, text, bytes),
-        Err(Flaw::Size) => Err(Refusal {
-            reason: Reason::SheetSize,
-            place: 0,
-        }),
-        Err(Flaw::Sum) => Err(Refusal {
-            reason: Reason::SheetSum,
-            place: 0,
-        }),
-        Err(Flaw::Layout) => Err(Refusal {
-            reason: Reason::SheetLayout,
-            place: 0,
-        }),
-    }
+    let sheet = accept_sheet(sheet)?;
+    read_text(&sheet, text, bytes)
 }
 
 // How many alternatives a search string has, where each has a meaning on every card that fits the sheet; or why not, and where.
@@ -71,22 +56,18 @@ pub fn check_search(sheet: &[u8], text: &[u8]) -> Result<usize, Refusal>
 
 // The verdict on a card, or why it is refused; `kinds` are those of the sheet.
 pub fn judge_by_search(
-    sheet: &[u8],
+    sheet: &Sheet<'_>,
     kinds: &[u8],
     bytes: &[u8],
     rows: Rows,
     card: &[u8],
 ) -> Result<bool, Reason>
-    requires sheet_value { read_sheet sheet.now ≡ (Ok tt) }
     requires kinds_value { kinds.now ≡ kinds_of (parameters_of sheet.now) }
     requires rows_within { RowsWithin (length bytes.now) rows }
     ensures { (i : ℕ) → verdict_step result i ≡ card_verdict (rows_question (parameters_of sheet.now) bytes.now rows) i card.now }
 {
-    let accepted = accept_card(kinds, card);
-    match accepted {
-        Ok(()) => Ok(rows_say(sheet, card, bytes, rows)),
-        Err(reason) => Err(reason),
-    }
+    let card = accept_card(kinds, card)?;
+    Ok(rows_say(sheet, &card, bytes, rows))
 }
 
 // Whether a card matches a search string on a sheet, or why there is no answer, and where.
@@ -95,6 +76,7 @@ pub fn match_search(sheet: &[u8], text: &[u8], card: &[u8]) -> Result<bool, Refu
 {
     let mut bytes = [0u8; 1024];
     let rows = read_search(sheet, text, &mut bytes)?;
-    let kinds = sheet::kinds(sheet);
-    answered(judge_by_search(sheet, &kinds, &bytes, rows, card))
+    let sheet = Sheet { bytes: sheet };
+    let kinds = sheet.kinds();
+    answered(judge_by_search(&sheet, &kinds, &bytes, rows, card))
 }

@@ -1,6 +1,6 @@
 // What is asked of each card of a run: by the rows of a filter, by a filter's text, or by the rows of a search string.
-ghost use Rattle.std.specs.Prelude.{◌≡◌, ℕ, ◌≤◌, length, Ok};
-ghost use Rattle.sheet.specs.Sheet.{parameters_of, read_sheet};
+ghost use Rattle.std.specs.Prelude.{◌≡◌, ℕ, ◌≤◌, length};
+ghost use Rattle.sheet.specs.Sheet.{parameters_of};
 ghost use Rattle.syntax.specs.Reader.{read};
 ghost use Rattle.query.specs.Rows.{RowsWithin};
 ghost use Rattle.row_judge.specs.Saying.{Whole};
@@ -16,6 +16,7 @@ use refusal::Reason;
 use row_judge::lend_for;
 use row_opener::open_rows;
 use searching::judge_by_search;
+use sheet::Sheet;
 
 // A question to the cards of a run.
 pub trait Asking {
@@ -35,7 +36,7 @@ pub trait Asking {
 // By the rows of a filter: they are opened once for all cards, and the lists are lent for them.
 #[derive(Drop)]
 pub struct ByRows<'a> {
-    sheet: &'a [u8],
+    sheet: &'a Sheet<'a>,
     kinds: [u8; 32],
     text: &'a [u8],
     rows: &'a [u32],
@@ -46,15 +47,14 @@ pub struct ByRows<'a> {
 }
 
 impl<'a> ByRows<'a> {
-    pub fn new(sheet: &'a [u8], text: &'a [u8], rows: &'a [u32]) -> Self
-        requires sheet_value { read_sheet sheet.now ≡ (Ok tt) }
+    pub fn new(sheet: &'a Sheet<'a>, text: &'a [u8], rows: &'a [u32]) -> Self
         requires text_len_bound { length text.now ≤ 1024 }
         requires whole { Whole rows.now }
         requires rows_len_bound { length rows.now ≤ 320 }
         ensures ready { RowsReady sheet.now result.kinds text.now rows.now result.values result.ends result.cells result.spans }
         ensures parts { (result.sheet.now ≡ sheet.now) × (result.text.now ≡ text.now) × (result.rows.now ≡ rows.now) }
     {
-        let kinds = sheet::kinds(sheet);
+        let kinds = sheet.kinds();
         let mut values = [0u64; 640];
         let mut ends = [0i64; 640];
         open_rows(&kinds, text, rows, &mut values, &mut ends);
@@ -96,18 +96,18 @@ impl<'a> Asking for ByRows<'a> {
 // By a filter's text, which is read again for each card.
 #[derive(Drop)]
 pub struct ByText<'a> {
-    sheet: &'a [u8],
+    sheet: &'a Sheet<'a>,
     kinds: [u8; 32],
     filter: &'a [u8],
 }
 
 impl<'a> ByText<'a> {
-    pub fn new(sheet: &'a [u8], filter: &'a [u8]) -> Self
+    pub fn new(sheet: &'a Sheet<'a>, filter: &'a [u8]) -> Self
         requires { Passing sheet.now filter.now }
         ensures ready { TextReady sheet.now result.kinds filter.now }
         ensures parts { (result.sheet.now ≡ sheet.now) × (result.filter.now ≡ filter.now) }
     {
-        let kinds = sheet::kinds(sheet);
+        let kinds = sheet.kinds();
         ByText {
             sheet,
             kinds,
@@ -129,20 +129,19 @@ impl<'a> Asking for ByText<'a> {
 // By the rows of a search string over its decoded bytes.
 #[derive(Drop)]
 pub struct BySearch<'a> {
-    sheet: &'a [u8],
+    sheet: &'a Sheet<'a>,
     kinds: [u8; 32],
     bytes: &'a [u8],
     rows: Rows,
 }
 
 impl<'a> BySearch<'a> {
-    pub fn new(sheet: &'a [u8], bytes: &'a [u8], rows: Rows) -> Self
-        requires sheet_value { read_sheet sheet.now ≡ (Ok tt) }
+    pub fn new(sheet: &'a Sheet<'a>, bytes: &'a [u8], rows: Rows) -> Self
         requires rows_within { RowsWithin (length bytes.now) rows }
         ensures ready { SearchReady sheet.now result.kinds bytes.now rows }
         ensures parts { (result.sheet.now ≡ sheet.now) × (result.bytes.now ≡ bytes.now) × (result.rows ≡ rows) }
     {
-        let kinds = sheet::kinds(sheet);
+        let kinds = sheet.kinds();
         BySearch {
             sheet,
             kinds,

@@ -11,10 +11,12 @@ ghost use Rattle.selecting.specs.Selecting.{Gathers, Selects};
 
 use answer::{Engine, write};
 use asking::{Asking, ByRows, BySearch, ByText};
+use card::Card;
 use checking::check;
 use preparing::fill;
 use refusal::{Reason, Refusal};
 use searching::read_search;
+use sheet::Sheet;
 
 // Gathers the record numbers of the cards that match in the buffer, until a card is refused.
 fn gather<A: Asking>(asking: &mut A, cards: &[u8], buffer: &mut [u32]) -> Result<usize, Refusal>
@@ -32,7 +34,7 @@ fn gather<A: Asking>(asking: &mut A, cards: &[u8], buffer: &mut [u32]) -> Result
         match asking.verdict(card) {
             Ok(yes) => {
                 if yes {
-                    buffer[count] = card::record_number(card);
+                    buffer[count] = Card { bytes: card }.record_number();
                     count += 1;
                 }
                 at = end;
@@ -89,7 +91,8 @@ fn select_by_rows(
 {
     let mut cells = [0u32; 1024];
     let filled = fill(sheet, filter, &mut cells)?;
-    let mut asking = ByRows::new(sheet, filter, &cells[0..filled]);
+    let sheet = Sheet { bytes: sheet };
+    let mut asking = ByRows::new(&sheet, filter, &cells[0..filled]);
     select_cards(&mut asking, cards, list)
 }
 
@@ -103,7 +106,8 @@ fn select_by_text(
     ensures { Selects (filter_question sheet.now filter.now) cards.now list.old result list.new }
 {
     check(sheet, filter)?;
-    let mut asking = ByText::new(sheet, filter);
+    let sheet = Sheet { bytes: sheet };
+    let mut asking = ByText::new(&sheet, filter);
     select_cards(&mut asking, cards, list)
 }
 
@@ -135,6 +139,7 @@ pub fn select_search(
 {
     let mut bytes = [0u8; 1024];
     let rows = read_search(sheet, text, &mut bytes)?;
-    let mut asking = BySearch::new(sheet, &bytes, rows);
+    let sheet = Sheet { bytes: sheet };
+    let mut asking = BySearch::new(&sheet, &bytes, rows);
     select_cards(&mut asking, cards, list)
 }

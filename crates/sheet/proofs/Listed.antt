@@ -140,14 +140,6 @@ table_listed of ps i q l = ap₂ (λ (j : ℕ) (qs : List Parameter). get_or (ta
     go n [] = refl
     go n (p ∷ before) = go n before
 
--- an index that is found is below 32, so that it can be raised
-pub find_below : (b : List ℕ) → read_sheet b ≡ (Ok tt) → (c : ℕ) (n : List ℕ) (f : Option Found) → f ≡ find c n (parameters_of b) → (x : Found) → f ≡ Some x → x.index + 1 < 256
-unfolding find
-find_below b h c n f e x g =
-    let r = found_listed 0 c n (parameters_of b) x.index x.kind (sym e ∙ g) in
-    let l = r.2 in
-    omega (arith, sheet_count b h, ap length l.split, length-append l.before (parameter x.kind c n ∷ l.after), l.index, r.1)
-
 -- ---- inside what a name names
 
 module _ (ps : List Parameter) (c : ℕ) (n : List ℕ) (f : Option Found) (e : f ≡ find c n ps) where

@@ -1,10 +1,9 @@
 // Parameter sheets: blocks of 512 bytes that list the parameters of a catalogue, each with its kind, its bundle and its name. A
-// reader asks `read_sheet` first; the parameters of a well-formed sheet are then found by name with `find`, and `kinds` gives their
-// kinds by index. A parameter is an item of the block: its tag is its kind (1 string, 2 number, 3 date, 4 token, 5 reference, 6 period, 7
+// reader asks `Sheet::read` first; the parameters of a sheet are then found by name with `find`, and `kinds` gives their kinds by index. A parameter is an item of the block: its tag is its kind (1 string, 2 number, 3 date, 4 token, 5 reference, 6 period, 7
 // bundle), its mark its bundle (0, or a bundle's index plus 1), and its text its name.
 #![tactic(auto)]
 
-ghost use Rattle.std.specs.Prelude.{◌≡◌, Err, Ok};
+ghost use Rattle.std.specs.Prelude.{◌≡◌, ℕ, List, ◌≤◌, ◌<◌, length, IfSome, Err, Ok, IfOk, IfErr};
 ghost use Rattle.block.specs.Seal.{HasSize};
 ghost use Rattle.sheet.specs.Sheet.{parameter, parameter_count, parameters_of, is_kind, is_parameter, are_parameters, clashes, absent, distinct, kind_at, has_parent, have_parents, are_right, sheet_layout, read_sheet};
 ghost use Rattle.block.specs.Walking.{coming};
@@ -14,6 +13,7 @@ ghost use Rattle.sheet.specs.Find.{find, enter, kinds_of, parents_of};
 use base::kind::{BUNDLE, PERIOD, STRING};
 use base::name::is_name;
 use block::{Flaw, Item, Walker};
+use std::marker::Model;
 
 // A parameter that is found by its name: its index and its kind.
 #[derive(Clone, Copy)]
@@ -122,96 +122,103 @@ fn sheet_layout(sheet: &[u8]) -> bool
     )
 }
 
-// What any bytes are, as a sheet: well formed (01: sound), or one of the refusals 1, 2 and 3. "Byte 0 is 0x50" or, with bundles,
-// 0x51; "byte 1 the number of parameters, 0 to 32".
-pub fn read_sheet(sheet: &[u8]) -> Result<(), Flaw>
-    ensures { result ≡ read_sheet sheet.now }
-{
-    match block::check(sheet) {
-        Err(Flaw::Size) => Err(Flaw::Size),
-        Err(Flaw::Sum) => Err(Flaw::Sum),
-        Ok(()) => {
-            if sheet_layout(sheet) {
-                Ok(())
-            } else {
-                Err(Flaw::Layout)
+// A parameter sheet: bytes that are well formed (01: sound). A clause sees the bytes.
+#[derive(Drop)]
+pub struct Sheet<'a> {
+    bytes: &'a [u8],
+}
+
+impl<'a> Model for Sheet<'a> {
+    ghost Value = { List ℕ };
+
+    ghost view = { λ sheet. sheet.bytes.now };
+
+    ghost invariant = { λ sheet. read_sheet sheet.bytes.now ≡ Ok tt };
+}
+
+impl<'a> Sheet<'a> {
+    // The sheet that any bytes are, or what is wrong with them: the refusals 1, 2 and 3. "Byte 0 is 0x50" or, with bundles, 0x51;
+    // "byte 1 the number of parameters, 0 to 32".
+    pub fn read(bytes: &'a [u8]) -> Result<Sheet<'a>, Flaw>
+        ensures read { IfOk result (λ sheet. (sheet ≡ bytes.now) × (read_sheet bytes.now ≡ Ok tt)) }
+        ensures flaw { IfErr result (λ flaw. read_sheet bytes.now ≡ Err flaw) }
+    {
+        block::check(bytes)?;
+        if sheet_layout(bytes) {
+            return Ok(Sheet { bytes });
+        }
+        Err(Flaw::Layout)
+    }
+
+    // How many parameters it has.
+    pub fn parameter_count(&self) -> u8
+        ensures { result ≡ parameter_count self.now }
+    {
+        self.bytes[1]
+    }
+
+    // Its parameters.
+    fn parameters(&self) -> Walker<'a>
+        ensures parameters { coming parameter result ≡ parameters_of self.now }
+        ensures most { length (parameters_of self.now) ≤ 32 }
+    {
+        Walker {
+            block: self.bytes,
+            at: 2,
+            left: self.bytes[1],
+        }
+    }
+
+    // Index and kind of the parameter that has the name in a bundle: 0 at the top, else the bundle's index plus 1.
+    pub fn find(&self, bundle: u8, name: &[u8]) -> Option<Found>
+        ensures found { result ≡ find bundle name.now (parameters_of self.now) }
+        ensures below { IfSome result (λ found. found.index < 32) }
+    {
+        let mut index: u8 = 0;
+        for p in self.parameters() {
+            if p.mark == bundle && p.text == name {
+                return Some(Found { index, kind: p.tag });
             }
+            index += 1;
+        }
+        None
+    }
+
+    // Where names are looked up inside what a name names: a bundle's index plus 1, or 255 where it names none.
+    pub fn enter(&self, bundle: u8, name: &[u8]) -> u8
+        ensures { result ≡ enter (parameters_of self.now) bundle name.now }
+    {
+        match self.find(bundle, name) {
+            Some(found) if found.kind == BUNDLE => found.index + 1,
+            _ => 255,
         }
     }
-}
 
-// The number of parameters of a well-formed sheet.
-pub fn parameter_count(sheet: &[u8]) -> u8
-    requires { read_sheet sheet.now ≡ (Ok tt) }
-    ensures { result ≡ parameter_count sheet.now }
-{
-    sheet[1]
-}
-
-// The parameters of a well-formed sheet.
-fn parameters(sheet: &[u8]) -> Walker<'_>
-    requires { read_sheet sheet.now ≡ (Ok tt) }
-    ensures { coming parameter result ≡ parameters_of sheet.now }
-{
-    Walker {
-        block: sheet,
-        at: 2,
-        left: sheet[1],
-    }
-}
-
-// Index and kind of the parameter that has the name in a bundle (0 at the top, else the bundle's index plus 1), on a well-formed
-// sheet.
-pub fn find(sheet: &[u8], bundle: u8, name: &[u8]) -> Option<Found>
-    requires { read_sheet sheet.now ≡ (Ok tt) }
-    ensures { result ≡ find bundle name.now (parameters_of sheet.now) }
-{
-    let mut index: u8 = 0;
-    for p in parameters(sheet) {
-        if p.mark == bundle && p.text == name {
-            return Some(Found { index, kind: p.tag });
+    // A part of each parameter by its index, and 0 past the last.
+    fn table<F: Fn(Item<'_>) -> u8>(&self, part: F) -> [u8; 32]
+        requires part_callable { F.IsAlwaysCallable part }
+        ensures { TableBy (F.post part) self.now result }
+    {
+        let mut table = [0u8; 32];
+        for (i, p) in self.parameters().enumerate() {
+            table[i] = part(p);
         }
-        index += 1;
+        table
     }
-    None
-}
 
-// Where names are looked up inside what a name names: a bundle's index plus 1, or 255 where it names none.
-pub fn enter(sheet: &[u8], bundle: u8, name: &[u8]) -> u8
-    requires { read_sheet sheet.now ≡ (Ok tt) }
-    ensures { result ≡ enter (parameters_of sheet.now) bundle name.now }
-{
-    match find(sheet, bundle, name) {
-        Some(found) if found.kind == BUNDLE => found.index + 1,
-        _ => 255,
+    // The kinds of its parameters by their index, and 0 past the last; and what is known of the bytes, which a clause sees alone.
+    pub fn kinds(&self) -> [u8; 32]
+        ensures kinds { result ≡ kinds_of (parameters_of self.now) }
+        ensures well_formed { read_sheet self.now ≡ Ok tt }
+    {
+        let _ = &self.bytes;
+        self.table(|p| p.tag)
     }
-}
 
-// A part of each parameter of a well-formed sheet by its index, and 0 past the last.
-fn table<F: Fn(Item<'_>) -> u8>(sheet: &[u8], part: F) -> [u8; 32]
-    requires sheet_value { read_sheet sheet.now ≡ (Ok tt) }
-    requires part_callable { F.IsAlwaysCallable part }
-    ensures { TableBy (F.post part) sheet.now result }
-{
-    let mut table = [0u8; 32];
-    for (i, p) in parameters(sheet).enumerate() {
-        table[i] = part(p);
+    // The bundles of its parameters by their index, each the bundle's index plus 1, and 0 at the top and past the last.
+    pub fn parents(&self) -> [u8; 32]
+        ensures { result ≡ parents_of (parameters_of self.now) }
+    {
+        self.table(|p| p.mark)
     }
-    table
-}
-
-// The kinds of a well-formed sheet's parameters by their index, and 0 past the last.
-pub fn kinds(sheet: &[u8]) -> [u8; 32]
-    requires { read_sheet sheet.now ≡ (Ok tt) }
-    ensures { result ≡ kinds_of (parameters_of sheet.now) }
-{
-    table(sheet, |p| p.tag)
-}
-
-// The bundles of a well-formed sheet's parameters by their index, each the bundle's index plus 1, and 0 at the top and past the last.
-pub fn parents(sheet: &[u8]) -> [u8; 32]
-    requires { read_sheet sheet.now ≡ (Ok tt) }
-    ensures { result ≡ parents_of (parameters_of sheet.now) }
-{
-    table(sheet, |p| p.mark)
 }

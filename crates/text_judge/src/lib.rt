@@ -2,9 +2,9 @@
 // that the test has a meaning was for check to say, before any card.
 #![tactic(auto)]
 
-ghost use Rattle.std.specs.Prelude.{◌≡◌, cond, not, ◌&&◌, ◌≤◌, ◌<◌, length, Ok};
-ghost use Rattle.sheet.specs.Sheet.{parameters_of, read_sheet};
-ghost use Rattle.card.specs.Card.{entries_of, read_card};
+ghost use Rattle.std.specs.Prelude.{◌≡◌, cond, not, ◌&&◌, ◌≤◌, ◌<◌, length};
+ghost use Rattle.sheet.specs.Sheet.{parameters_of};
+ghost use Rattle.card.specs.Card.{entries_of};
 ghost use Rattle.syntax.specs.Placed.{Placed};
 ghost use Rattle.syntax.specs.Scan.{test_of};
 ghost use Rattle.syntax.specs.Grammar.{round};
@@ -15,9 +15,11 @@ ghost use Rattle.judge.specs.Verdicts.{text_counts};
 ghost use Rattle.text_judge.specs.Members.{parsed_says, judged_says, some_chosen, member_says};
 ghost use Rattle.filter.specs.Walks.{answer_of};
 
+use card::Card;
 use filter::Spot;
 use judge::{Chosen, is_under, member_counts, member_truth, some_says, test_found, test_says};
 use kind::Meaning;
+use sheet::Sheet;
 use syntax::scan::skip;
 use syntax::{Connective, Head, RawTest, read_close, read_connective, read_head, read_member};
 
@@ -58,15 +60,13 @@ fn after_item(needed: bool, says: bool, item: bool) -> bool
 // What a test says, where that is needed.
 fn test_verdict(
     needed: bool,
-    sheet: &[u8],
+    sheet: &Sheet<'_>,
     bundle: u8,
-    card: &[u8],
+    card: &Card<'_>,
     chosen: Chosen,
     filter: &[u8],
     test: RawTest,
 ) -> bool
-    requires sheet_value { read_sheet sheet.now ≡ (Ok tt) }
-    requires card_value { read_card card.now ≡ (Ok tt) }
     requires filter_len_bound { length filter.now ≤ 1024 }
     requires placed { Placed filter.now test }
     ensures { result ≡ (judging needed (parameters_of sheet.now) bundle (chosen_of chosen (entries_of card.now))).one (test_of filter.now test) }
@@ -100,14 +100,12 @@ fn entry_counts(under: bool, filter: &[u8], test: RawTest, meaning: Meaning, tex
 #[cycle(judging)]
 fn entry_chosen(
     counts: bool,
-    sheet: &[u8],
-    card: &[u8],
+    sheet: &Sheet<'_>,
+    card: &Card<'_>,
     filter: &[u8],
     occurrence: u8,
     spot: Spot,
 ) -> bool
-    requires sheet_value { read_sheet sheet.now ≡ (Ok tt) }
-    requires card_value { read_card card.now ≡ (Ok tt) }
     requires filter_len_bound { length filter.now ≤ 1024 }
     requires at_in_bounds { spot.at ≤ length filter.now }
     ensures { result ≡ (counts && parsed_says (parameters_of sheet.now) spot.bundle (of_occurrence occurrence (entries_of card.now)) (filter_at spot.levels filter.now spot.close spot.at)) }
@@ -123,8 +121,8 @@ fn entry_chosen(
 // occurrence.
 #[cycle(judging)]
 fn some_chosen(
-    sheet: &[u8],
-    card: &[u8],
+    sheet: &Sheet<'_>,
+    card: &Card<'_>,
     chosen: Chosen,
     filter: &[u8],
     spot: Spot,
@@ -132,14 +130,12 @@ fn some_chosen(
     meaning: Meaning,
     test: RawTest,
 ) -> bool
-    requires sheet_value { read_sheet sheet.now ≡ (Ok tt) }
-    requires card_value { read_card card.now ≡ (Ok tt) }
     requires filter_len_bound { length filter.now ≤ 1024 }
     requires at_in_bounds { spot.at ≤ length filter.now }
     requires placed { Placed filter.now test }
     ensures { result ≡ some_chosen (parameters_of sheet.now) spot.bundle (entries_of card.now) chosen (filter_at spot.levels filter.now spot.close spot.at) index meaning (test_of filter.now test).value (entries_of card.now) }
 {
-    for e in card::entries_of(card) {
+    for e in card.entries() {
         let under = is_under(chosen, e.mark, e.tag == index);
         let counts = entry_counts(under, filter, test, meaning, e.text);
         if entry_chosen(counts, sheet, card, filter, e.mark, spot) {
@@ -153,15 +149,13 @@ fn some_chosen(
 #[cycle(judging)]
 fn member_verdict(
     needed: bool,
-    sheet: &[u8],
-    card: &[u8],
+    sheet: &Sheet<'_>,
+    card: &Card<'_>,
     chosen: Chosen,
     filter: &[u8],
     spot: Spot,
     test: RawTest,
 ) -> bool
-    requires sheet_value { read_sheet sheet.now ≡ (Ok tt) }
-    requires card_value { read_card card.now ≡ (Ok tt) }
     requires filter_len_bound { length filter.now ≤ 1024 }
     requires at_in_bounds { spot.at ≤ length filter.now }
     requires placed { Placed filter.now test }
@@ -196,14 +190,12 @@ fn member_verdict(
 fn judge_round(
     needed: bool,
     negate: bool,
-    sheet: &[u8],
-    card: &[u8],
+    sheet: &Sheet<'_>,
+    card: &Card<'_>,
     chosen: Chosen,
     filter: &[u8],
     spot: Spot,
 ) -> Option<Judged>
-    requires sheet_value { read_sheet sheet.now ≡ (Ok tt) }
-    requires card_value { read_card card.now ≡ (Ok tt) }
     requires filter_len_bound { length filter.now ≤ 1024 }
     requires at_in_bounds { spot.at ≤ length filter.now }
     requires close_value { spot.close ≡ round }
@@ -221,15 +213,13 @@ fn judge_round(
 #[cycle(judging)]
 fn judge_chosen(
     needed: bool,
-    sheet: &[u8],
-    card: &[u8],
+    sheet: &Sheet<'_>,
+    card: &Card<'_>,
     chosen: Chosen,
     filter: &[u8],
     spot: Spot,
     until: usize,
 ) -> Option<Judged>
-    requires sheet_value { read_sheet sheet.now ≡ (Ok tt) }
-    requires card_value { read_card card.now ≡ (Ok tt) }
     requires filter_len_bound { length filter.now ≤ 1024 }
     requires at_le_until { spot.at ≤ until }
     requires until_in_bounds { until < length filter.now }
@@ -241,7 +231,7 @@ fn judge_chosen(
         at: skip(filter, until + 1),
         levels,
         close: b']',
-        bundle: sheet::enter(sheet, spot.bundle, &filter[at..until]),
+        bundle: sheet.enter(spot.bundle, &filter[at..until]),
     };
     // only where the brackets end is asked: their filter is judged for each entry
     let inner = judge_filter(false, sheet, card, chosen, filter, inside)?;
@@ -256,14 +246,12 @@ fn judge_chosen(
 #[cycle(judging)]
 fn judge_item(
     needed: bool,
-    sheet: &[u8],
-    card: &[u8],
+    sheet: &Sheet<'_>,
+    card: &Card<'_>,
     chosen: Chosen,
     filter: &[u8],
     spot: Spot,
 ) -> Option<Judged>
-    requires sheet_value { read_sheet sheet.now ≡ (Ok tt) }
-    requires card_value { read_card card.now ≡ (Ok tt) }
     requires filter_len_bound { length filter.now ≤ 1024 }
     requires at_in_bounds { spot.at ≤ length filter.now }
     ensures { result ≡ answer_of judged (judging needed (parameters_of sheet.now) spot.bundle (chosen_of chosen (entries_of card.now))) (item_at spot.levels filter.now spot.close spot.at) }
@@ -310,14 +298,12 @@ fn judge_item(
 #[cycle(judging)]
 pub fn judge_filter(
     needed: bool,
-    sheet: &[u8],
-    card: &[u8],
+    sheet: &Sheet<'_>,
+    card: &Card<'_>,
     chosen: Chosen,
     filter: &[u8],
     spot: Spot,
 ) -> Option<Judged>
-    requires sheet_value { read_sheet sheet.now ≡ (Ok tt) }
-    requires card_value { read_card card.now ≡ (Ok tt) }
     requires filter_len_bound { length filter.now ≤ 1024 }
     requires at_in_bounds { spot.at ≤ length filter.now }
     ensures { result ≡ answer_of judged (judging needed (parameters_of sheet.now) spot.bundle (chosen_of chosen (entries_of card.now))) (filter_at spot.levels filter.now spot.close spot.at) }

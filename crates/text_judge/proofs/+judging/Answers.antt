@@ -30,7 +30,7 @@ pub judge_chosen-returns-in_err-test : goal.judge_chosen-returns-in_err-test
 judge_chosen-returns-in_err-test t c = c.from_residual-in_err-test.ensures ∙ chosen_no_member judged judged_cases (judging _ _ _ _) _ _ _ _ _ _ c.skip.ensures (judging _ _ _ _) _ c.judge_filter.ensures _ _ c.in_ok-inner.was _ c.read_member.ensures c.in_err-test.was
 
 pub judge_chosen-member_verdict-requires : goal.judge_chosen-member_verdict-requires
-judge_chosen-member_verdict-requires t c = let s = c.skip.ensures in (omega (arith, c.decreases, c.requires.at_le_until, c.requires.until_in_bounds, s.from, s.within), (search rules, (search rules, (search rules, (s.within, search (member_in_place, rules))))))
+judge_chosen-member_verdict-requires t c = let s = c.skip.ensures in (omega (arith, c.decreases, c.requires.at_le_until, c.requires.until_in_bounds, s.from, s.within), (search rules, (s.within, search (member_in_place, rules))))
 
 pub judge_chosen-returns : goal.judge_chosen-returns
 judge_chosen-returns t c = chosen-member judged judged_cases (judging _ _ _ _) _ _ _ _ _ _ c.skip.ensures (judging _ _ _ _) _ c.judge_filter.ensures _ _ c.in_ok-inner.was _ c.read_member.ensures _ _ c.in_ok-test.was (λ g r s. verdict_inside _ _ _ _ _ _ _ _ _ _ _ c.enter.ensures c.member_verdict.ensures _ g r)
@@ -42,7 +42,7 @@ pub judge_filter-loop-link-init : goal.judge_filter-loop-link-init
 judge_filter-loop-link-init t c = search (chain_starts, rules)
 
 pub judge_filter-judge_item-requires-in-Some : goal.judge_filter-judge_item-requires-in-Some
-judge_filter-judge_item-requires-in-Some t c = let a = connective_ahead _ _ _ _ c.read_connective.ensures c.in-Some.is in (omega arith, (search rules, (search rules, (search rules, a.1))))
+judge_filter-judge_item-requires-in-Some t c = let a = connective_ahead _ _ _ _ c.read_connective.ensures c.in-Some.is in (omega arith, (search rules, a.1))
 
 pub judge_filter-loop-link-smaller : goal.judge_filter-loop-link-smaller
 judge_filter-loop-link-smaller t c = let j = connective_ahead _ _ _ _ c.read_connective.ensures c.in-Some.is in let a = item_ahead judged judged_cases _ _ _ _ _ _ _ _ c.judge_item-in-Some.ensures c.in_ok-item.was in omega arith
@@ -63,13 +63,13 @@ pub judge_item-returns-then-levels-eq0 : goal.judge_item-returns-then-levels-eq0
 judge_item-returns-then-levels-eq0 t c = search (item_deep, judged_cases, rules)
 
 pub judge_item-judge_round-requires : goal.judge_item-judge_round-requires
-judge_item-judge_round-requires t c = let a = head_open_ahead _ _ _ _ c.read_head.ensures (search rules) _ c.in_ok-head.was _ _ c.in-Open.is in (omega arith, (search rules, (search rules, (search rules, (a.1, search rules)))))
+judge_item-judge_round-requires t c = let a = head_open_ahead _ _ _ _ c.read_head.ensures (search rules) _ c.in_ok-head.was _ _ c.in-Open.is in (omega arith, (search rules, (a.1, search rules)))
 
 pub judge_item-returns-then-levels-eq0-2 : goal.judge_item-returns-then-levels-eq0-2
 judge_item-returns-then-levels-eq0-2 t c = search (choice_deep, judged_cases, rules)
 
 pub judge_item-judge_chosen-requires : goal.judge_item-judge_chosen-requires
-judge_item-judge_chosen-requires t c = (omega arith, (search rules, (search rules, (search rules, (search (head_choice_order, rules), search (head_choice_within, rules))))))
+judge_item-judge_chosen-requires t c = (omega arith, (search rules, (search (head_choice_order, rules), search (head_choice_within, rules))))
 
 pub judge_item-returns-in-Test : goal.judge_item-returns-in-Test
 judge_item-returns-in-Test t c = item_test judged judged_cases (judging _ _ _ _) _ _ _ _ _ c.read_head.ensures _ _ _ c.in_ok-head.was c.in-Test.is c.test_verdict.ensures
@@ -105,10 +105,10 @@ pub member_verdict-returns : goal.member_verdict-returns
 member_verdict-returns t c = search (and_fails, rules)
 
 pub some_chosen-loop-e-init : goal.some_chosen-loop-e-init
-some_chosen-loop-e-init t c = ap (some_chosen _ _ _ _ _ _ _ _) (ap (coming entry) c.into_iter-e-iterator.ensures.into_iter_gives ∙ c.entries_of-e-items.ensures.entries)
+some_chosen-loop-e-init t c = ap (some_chosen _ _ _ _ _ _ _ _) (ap (coming entry) c.into_iter-e-iterator.ensures.into_iter_gives ∙ c.entries-e-items.ensures.entries)
 
 pub some_chosen-entry_chosen-requires : goal.some_chosen-entry_chosen-requires
-some_chosen-entry_chosen-requires t c = (omega (arith, c.decreases), (c.requires.sheet_value, (c.requires.card_value, (c.requires.filter_len_bound, c.requires.at_in_bounds))))
+some_chosen-entry_chosen-requires t c = (omega (arith, c.decreases), (c.requires.filter_len_bound, c.requires.at_in_bounds))
 
 pub some_chosen-returns-then-entry_chosen : goal.some_chosen-returns-then-entry_chosen
 some_chosen-returns-then-entry_chosen t c =

@@ -5,7 +5,7 @@ use Rattle.card_reader.proofs.entries.read_entries.Goals as goal
 pub loop-e-init : goal.loop-e-init
 loop-e-init c =
     rw (c.into_iter-e-iterator.ensures.into_iter_gives, c.enumerate-e-items.ensures.source, c.enumerate-e-items.ensures.count)
-    (progress_start _ _ _ _ _ c.entries_of.result c.requires.card_value c.entries_of.ensures.block c.entries_of.ensures.entries c.requires.lent c.begin.ensures)
+    (progress_start _ _ _ _ _ c.entries.result c.entries.ensures.well_formed c.entries.ensures.block c.entries.ensures.entries c.requires.lent c.begin.ensures)
 
 pub take_entry-requires-clause-lent : goal.take_entry-requires-clause-lent
 take_entry-requires-clause-lent c = c.loop-e.invariant.lent
@@ -25,4 +25,4 @@ loop-e-preserved c =
     progress_next _ _ _ _ _ _ _ c.loop-e.invariant _ _ c.in-Some.ensures.steps.0 _ c.in-Some.ensures.steps.1 _ _ _ c.take_entry.ensures c.if-not-take_entry.false _ c.in-Some.ensures.steps.2
 
 pub returns : goal.returns
-returns c = progress_end _ _ _ _ _ _ _ c.loop-e.invariant c.in-None.ensures.steps.0.0 _ c.begin.ensures
+returns c = progress_end _ _ _ _ _ _ _ c.loop-e.invariant c.entries.ensures.well_formed c.in-None.ensures.steps.0.0 _ c.begin.ensures

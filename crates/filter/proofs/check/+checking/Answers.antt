@@ -33,7 +33,7 @@ pub check_filter-loop-link-init : goal.check_filter-loop-link-init
 check_filter-loop-link-init t c = search (chain_starts, rules)
 
 pub check_filter-check_item-requires-in-Some : goal.check_filter-check_item-requires-in-Some
-check_filter-check_item-requires-in-Some t c = let a = connective_ahead _ _ _ _ c.read_connective.ensures c.in-Some.is in (omega arith, (search rules, (search rules, a.1)))
+check_filter-check_item-requires-in-Some t c = let a = connective_ahead _ _ _ _ c.read_connective.ensures c.in-Some.is in (omega arith, (search rules, a.1))
 
 pub check_filter-join_summaries-requires : goal.check_filter-join_summaries-requires
 check_filter-join_summaries-requires t c = tests_fit _ _ _ _ _ _ _ _ _ _ _ _ _ c.loop-link.invariant c.read_connective.ensures c.in-Some.is c.check_item-in-Some.ensures c.in_ok-item.was c.requires.filter_len_bound
@@ -57,13 +57,13 @@ pub check_item-returns-then-levels-eq0 : goal.check_item-returns-then-levels-eq0
 check_item-returns-then-levels-eq0 t c = search (item_deep, walked_cases, rules)
 
 pub check_item-check_round-requires : goal.check_item-check_round-requires
-check_item-check_round-requires t c = let a = head_open_ahead _ _ _ _ c.read_head.ensures (search rules) _ c.in_ok-head.was _ _ c.in-Open.is in (omega arith, (search rules, (search rules, (a.1, search rules))))
+check_item-check_round-requires t c = let a = head_open_ahead _ _ _ _ c.read_head.ensures (search rules) _ c.in_ok-head.was _ _ c.in-Open.is in (omega arith, (search rules, (a.1, search rules)))
 
 pub check_item-returns-then-levels-eq0-2 : goal.check_item-returns-then-levels-eq0-2
 check_item-returns-then-levels-eq0-2 t c = search (choice_deep, walked_cases, rules)
 
 pub check_item-check_chosen-requires : goal.check_item-check_chosen-requires
-check_item-check_chosen-requires t c = (omega arith, (search rules, (search rules, (search (head_choice_order, rules), search (head_choice_within, rules)))))
+check_item-check_chosen-requires t c = (omega arith, (search rules, (search (head_choice_order, rules), search (head_choice_within, rules))))
 
 pub check_item-returns-in-Test : goal.check_item-returns-in-Test
 check_item-returns-in-Test t c = item_test walked walked_cases (reading _ _) _ _ _ _ _ c.read_head.ensures _ _ _ c.in_ok-head.was c.in-Test.is c.test_summary.ensures

@@ -12,7 +12,7 @@ use Rattle.judge.proofs.sets.conforms.Goals as goal
 
 pub returns : goal.returns
 returns c =
-    all_from_yields_List (λ (e : Entry). card_readable (get_or c.args.kinds.now e.index 0) e.text) c.all.new.self _ _ c.all.ensures.ran (walk_listed entry c.entries_of.result)
+    all_from_yields_List (λ (e : Entry). card_readable (get_or c.args.kinds.now e.index 0) e.text) c.all.new.self _ _ c.all.ensures.ran (walk_listed entry c.entries.result)
     (λ x b q k. search rules)
     ∙ conforms_all c.args.kinds.now _
-    ∙ ap (conforms_to c.args.kinds.now) c.entries_of.ensures.entries
+    ∙ ap (conforms_to c.args.kinds.now) c.entries.ensures.entries

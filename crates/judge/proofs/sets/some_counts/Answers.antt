@@ -14,6 +14,6 @@ use Rattle.judge.proofs.sets.some_counts.Goals as goal
 pub returns : goal.returns
 returns c =
     any_from_yields_List (λ (e : Entry). (counts c.args.chosen e.occurrence && eqb e.index c.args.index) && text_counts c.args.meaning c.args.value.now e.text) c.any.new.self _ _ c.any.ensures.ran
-    (walk_listed entry c.entries_of.result) (λ x b q k. search rules)
+    (walk_listed entry c.entries.result) (λ x b q k. search rules)
     ∙ chosen_any _ _ _ _
-    ∙ ap (λ es. some_value (text_counts c.args.meaning c.args.value.now) (values_at c.args.index (chosen_of c.args.chosen es))) c.entries_of.ensures.entries
+    ∙ ap (λ es. some_value (text_counts c.args.meaning c.args.value.now) (values_at c.args.index (chosen_of c.args.chosen es))) c.entries.ensures.entries

@@ -92,9 +92,6 @@ rows_say-opened_at-opened-requires t c = search (ready-value, ready_end, rules)
 pub rows_say-plain_says-verdict-requires-clause-filter_len_bound : goal.rows_say-plain_says-verdict-requires-clause-filter_len_bound
 rows_say-plain_says-verdict-requires-clause-filter_len_bound t c = c.requires.short
 
-pub rows_say-plain_says-verdict-requires-clause-card_value : goal.rows_say-plain_says-verdict-requires-clause-card_value
-rows_say-plain_says-verdict-requires-clause-card_value t c = c.requires.well_formed
-
 pub rows_say-plain_says-verdict-requires-clause-keeps_card : goal.rows_say-plain_says-verdict-requires-clause-keeps_card
 rows_say-plain_says-verdict-requires-clause-keeps_card t c = c.requires.keeps
 

@@ -10,7 +10,7 @@ use Rattle.row_writer.proofs.Writing.{chosen_room, chosen-cells, chosen_tests}
 use Rattle.row_writer.proofs.write.+writing.Goals as goal
 
 pub write_chosen-write_filter-requires : goal.write_chosen-write_filter-requires
-write_chosen-write_filter-requires t c = (search (inside-less, rules), (search rules, search (inside_room, rules)))
+write_chosen-write_filter-requires t c = (search (inside-less, rules), search (inside_room, rules))
 
 pub write_chosen-returns-in_err-inner : goal.write_chosen-returns-in_err-inner
 write_chosen-returns-in_err-inner t c = rw c.from_residual.ensures (chosen_no_filter _ _ _ _ _ _ c.inside_of-inside.ensures _ _ _ c.write_filter.ensures c.in_err-inner.was)
@@ -22,7 +22,7 @@ pub write_filter-returns-in_err-first : goal.write_filter-returns-in_err-first
 write_filter-returns-in_err-first t c = rw c.from_residual.ensures (filter_no_item _ _ _ _ _ _ _ _ _ _ c.write_item.ensures c.in_err-first.was)
 
 pub write_filter-write_rest-requires : goal.write_filter-write_rest-requires
-write_filter-write_rest-requires t c = (search rules, (search rules, search (chain_starts, rules)))
+write_filter-write_rest-requires t c = (search rules, search (chain_starts, rules))
 
 pub write_filter-returns : goal.write_filter-returns
 write_filter-returns t c = filter_rest _ _ _ _ _ _ _ _ _ _ c.write_item.ensures _ c.in_ok-first.was c.requires.room _ _ c.write_rest.ensures
@@ -40,13 +40,13 @@ pub write_item-returns-then-levels-eq0 : goal.write_item-returns-then-levels-eq0
 write_item-returns-then-levels-eq0 t c = wrote_deep _ _ _ _ _ _ _ _ c.read_head.ensures _ c.in_ok-head.was _ _ c.in-Open.is _ c.if-levels-eq0.true
 
 pub write_item-write_round-requires : goal.write_item-write_round-requires
-write_item-write_round-requires t c = (search (open_less _ _ _ _ _ _ c.read_head.ensures c.requires.room _ c.in_ok-head.was _ _ c.in-Open.is, rules), (search rules, (open_room _ _ _ _ _ _ c.read_head.ensures c.requires.room _ c.in_ok-head.was _ _ c.in-Open.is, (search rules, open_low _ _ _ _ _ _ c.read_head.ensures c.requires.room _ c.in_ok-head.was _ _ c.in-Open.is))))
+write_item-write_round-requires t c = (search (open_less _ _ _ _ _ _ c.read_head.ensures c.requires.room _ c.in_ok-head.was _ _ c.in-Open.is, rules), (open_room _ _ _ _ _ _ c.read_head.ensures c.requires.room _ c.in_ok-head.was _ _ c.in-Open.is, (search rules, open_low _ _ _ _ _ _ c.read_head.ensures c.requires.room _ c.in_ok-head.was _ _ c.in-Open.is)))
 
 pub write_item-returns-then-levels-eq0-2 : goal.write_item-returns-then-levels-eq0-2
 write_item-returns-then-levels-eq0-2 t c = wrote_choice_deep _ _ _ _ _ _ _ _ c.read_head.ensures _ c.in_ok-head.was _ c.in-Choice.is _ c.if-levels-eq0-2.true
 
 pub write_item-write_chosen-requires : goal.write_item-write_chosen-requires
-write_item-write_chosen-requires t c = (search rules, (search rules, (search rules, (choice_low _ _ _ _ _ _ c.read_head.ensures c.requires.room _ c.in_ok-head.was _ c.in-Choice.is, choice_within _ _ _ _ _ _ c.read_head.ensures c.requires.room _ c.in_ok-head.was _ c.in-Choice.is))))
+write_item-write_chosen-requires t c = (search rules, (search rules, (choice_low _ _ _ _ _ _ c.read_head.ensures c.requires.room _ c.in_ok-head.was _ c.in-Choice.is, choice_within _ _ _ _ _ _ c.read_head.ensures c.requires.room _ c.in_ok-head.was _ c.in-Choice.is)))
 
 pub write_item-returns-in-Test : goal.write_item-returns-in-Test
 write_item-returns-in-Test t c = wrote_test _ _ _ _ _ _ _ _ c.read_head.ensures _ _ _ _ _ c.in_ok-head.was c.in-Test.is c.write_test.ensures
@@ -61,7 +61,7 @@ pub write_item-returns-in_err-head : goal.write_item-returns-in_err-head
 write_item-returns-in_err-head t c = rw c.from_residual.ensures (wrote_nothing _ _ _ _ _ _ _ _ c.read_head.ensures _ c.in_err-head.was)
 
 pub write_rest-write_item-requires : goal.write_rest-write_item-requires
-write_rest-write_item-requires t c = (search (chain_falls, rules), (search rules, search (chain_room, rules)))
+write_rest-write_item-requires t c = (search (chain_falls, rules), search (chain_room, rules))
 
 pub write_rest-write_join-requires : goal.write_rest-write_join-requires
 write_rest-write_join-requires t c = chain_joins _ _ _ _ _ _ _ _ _ _ _ c.loop-link.invariant _ c.read_connective.ensures _ c.in-Some.is _ _ c.write_item.ensures _ c.in_ok-item.was

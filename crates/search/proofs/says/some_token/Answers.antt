@@ -14,7 +14,7 @@ use Rattle.search.proofs.says.some_token.Goals as goal
 
 pub returns : goal.returns
 returns c =
-    any_from_yields_List (λ (e : Entry). eqb e.index c.args.index && matches_at e.text c.args.split c.args.asked.now) c.any.new.self _ _ c.any.ensures.ran (walk_listed entry c.entries_of.result)
+    any_from_yields_List (λ (e : Entry). eqb e.index c.args.index && matches_at e.text c.args.split c.args.asked.now) c.any.new.self _ _ c.any.ensures.ran (walk_listed entry c.entries.result)
     (λ x b q k. search rules)
     ∙ value_any _ _ _
-    ∙ ap (λ es. some_value (λ x. matches_at x c.args.split c.args.asked.now) (values_at c.args.index es)) c.entries_of.ensures.entries
+    ∙ ap (λ es. some_value (λ x. matches_at x c.args.split c.args.asked.now) (values_at c.args.index es)) c.entries.ensures.entries

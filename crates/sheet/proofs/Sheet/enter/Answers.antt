@@ -1,10 +1,7 @@
--- `sheet::enter` meets its contract. Assumes nothing.
+-- `sheet::Sheet::enter` meets its contract. Assumes nothing.
 use borrow.Author.Rules.{rules}
-use Rattle.sheet.proofs.Listed.{find_below, enter-bundle, enter_other, enter_missing}
-use Rattle.sheet.proofs.enter.Goals as goal
-
-pub overflow_add-result : goal.overflow_add-result
-overflow_add-result c = search (find_below, rules)
+use Rattle.sheet.proofs.Listed.{enter-bundle, enter_other, enter_missing}
+use Rattle.sheet.proofs.Sheet.enter.Goals as goal
 
 pub returns-in-Some : goal.returns-in-Some
 returns-in-Some c = search (enter-bundle, rules)

@@ -1,0 +1,35 @@
+// A sheet that any bytes are, for every operation.
+ghost use Rattle.std.specs.Prelude.{◌≡◌, List, Err, Ok, IfOk, IfErr};
+ghost use Rattle.sheet.specs.Sheet.{Parameter, read_sheet};
+ghost use Rattle.refusal.specs.Answers.{number_of};
+ghost use Rattle.refusal.specs.Steps.{stop, refusal_step};
+ghost use Rattle.answer.specs.Operations.{sheet_step, accept_sheet};
+
+use block::Flaw;
+use refusal::{Reason, Refusal};
+use sheet::Sheet;
+
+// What is told of bytes that are no sheet: 1, 2 and 3.
+fn sheet_reason(flaw: Flaw) -> Reason
+    ensures { (ps : List Parameter) → sheet_step (Err flaw) ps ≡ stop (number_of result) 0 }
+{
+    match flaw {
+        Flaw::Size => Reason::SheetSize,
+        Flaw::Sum => Reason::SheetSum,
+        Flaw::Layout => Reason::SheetLayout,
+    }
+}
+
+// The sheet, or its refusal.
+pub fn accept_sheet(bytes: &[u8]) -> Result<Sheet<'_>, Refusal>
+    ensures accepted { IfOk result (λ sheet. (sheet ≡ bytes.now) × (read_sheet bytes.now ≡ Ok tt)) }
+    ensures refused { IfErr result (λ refusal. accept_sheet bytes.now ≡ refusal_step refusal) }
+{
+    match Sheet::read(bytes) {
+        Ok(sheet) => Ok(sheet),
+        Err(flaw) => Err(Refusal {
+            reason: sheet_reason(flaw),
+            place: 0,
+        }),
+    }
+}
