@@ -31,6 +31,7 @@ use Rattle.filter.proofs.Walk.{top-bundle, top_read, was_filter, was_none}
 use Rattle.text_judge.proofs.Judging.{judged_cases, judging_is}
 use Rattle.card_reader.specs.Lists.{kinds_in, Lent, ReadsCard}
 use Rattle.row_opener.specs.Opening.{Opens}
+use Rattle.row_opener.specs.declared.Opened.{Opened}
 use Rattle.row_judge.specs.Saying.{rows_say, Whole, Ready}
 use Rattle.row_judge.specs.Asking.{LentFor}
 use Rattle.row_judge.proofs.Asking.{lent-on, lent-ready}
@@ -144,8 +145,8 @@ module _ (kinds xs rows b before cells : List ℕ) (spans₀ spans : List ℤ) (
   taken-lent = lent-on kinds rows before cells spans₀ spans l w.lent w.begins
 
   -- rows that were opened are ready for the card
-  pub taken-ready : (values : List ℕ) (ends : List ℤ) → length xs ≤ 1024 → Whole rows → Opens kinds xs rows values ends (length rows) → (c : List ℕ) → t ≡ Ok c → Ready xs rows values ends c cells spans
-  taken-ready values ends h e o c k = subst (λ (d : List ℕ). Ready xs rows values ends d cells spans) (sym (w.accepts.same c k)) (lent-ready kinds xs rows b cells spans taken-lent values ends h e o (w.keeps c k))
+  pub taken-ready : (values : List (Option Opened)) → length xs ≤ 1024 → Whole rows → Opens kinds xs rows values (length rows) → (c : List ℕ) → t ≡ Ok c → Ready xs rows values c cells spans
+  taken-ready values h e o c k = subst (λ (d : List ℕ). Ready xs rows values d cells spans) (sym (w.accepts.same c k)) (lent-ready kinds xs rows b cells spans taken-lent values h e o (w.keeps c k))
 
   pub taken-says : (v : Bool) (c : List ℕ) → t ≡ Ok c → v ≡ rows_say (kinds_in cells) xs (chosen_of every (entries_of c)) rows
       → (ps : List Parameter) → kinds ≡ kinds_of ps → (i : ℕ) → found v ≡ card_verdict (cells_question ps xs rows) i b

@@ -16,7 +16,7 @@ use card_reader::read_entries;
 use judge::Chosen;
 use refusal::Reason;
 use row_judge::{lend_for, rows_say};
-use row_opener::open_rows;
+use row_opener::{Opened, open_rows};
 
 // Reads a card as accept_card does, and keeps what its entries read to; `kinds` are those of the sheet.
 fn take_card<'a>(
@@ -45,8 +45,7 @@ pub fn judge_by_rows(
     kinds: &[u8],
     filter: &[u8],
     rows: &[u32],
-    values: &[u64],
-    ends: &[i64],
+    values: &[Option<Opened>],
     card: &[u8],
     cells: &mut [u64],
     spans: &mut [i64],
@@ -54,14 +53,14 @@ pub fn judge_by_rows(
     requires kinds_len { length kinds.now ≡ 32 }
     requires filter_len_bound { length filter.now ≤ 1024 }
     requires whole { Whole rows.now }
-    requires opens { Opens kinds.now filter.now rows.now values.now ends.now (length rows.now) }
+    requires opens { Opens kinds.now filter.now rows.now values.now (length rows.now) }
     requires lent_for { LentFor kinds.now rows.now cells.old spans.old }
     ensures i_value { (ps : List Parameter) → kinds.now ≡ kinds_of ps → (i : ℕ) → verdict_step result i ≡ card_verdict (cells_question ps filter.now rows.now) i card.now }
     ensures lent_for_2 { LentFor kinds.now rows.now cells.new spans.new }
 {
     let card = take_card(kinds, card, cells, spans)?;
     let every: Chosen = None;
-    Ok(rows_say(filter, rows, values, ends, &card, cells, spans, every))
+    Ok(rows_say(filter, rows, values, &card, cells, spans, every))
 }
 
 // The same of one card alone: the lists are lent for it.
@@ -69,22 +68,19 @@ fn judge_opened(
     kinds: &[u8],
     filter: &[u8],
     rows: &[u32],
-    values: &[u64],
-    ends: &[i64],
+    values: &[Option<Opened>],
     card: &[u8],
 ) -> Result<bool, Reason>
     requires kinds_len { length kinds.now ≡ 32 }
     requires filter_len_bound { length filter.now ≤ 1024 }
     requires whole { Whole rows.now }
-    requires opens { Opens kinds.now filter.now rows.now values.now ends.now (length rows.now) }
+    requires opens { Opens kinds.now filter.now rows.now values.now (length rows.now) }
     ensures { (ps : List Parameter) → kinds.now ≡ kinds_of ps → (i : ℕ) → verdict_step result i ≡ card_verdict (cells_question ps filter.now rows.now) i card.now }
 {
     let mut cells = [0u64; 608];
     let mut spans = [0i64; 128];
     lend_for(kinds, rows, &mut cells, &spans);
-    judge_by_rows(
-        kinds, filter, rows, values, ends, card, &mut cells, &mut spans,
-    )
+    judge_by_rows(kinds, filter, rows, values, card, &mut cells, &mut spans)
 }
 
 // The same of a few rows that are opened for this card alone: their lists take less time to clear.
@@ -95,10 +91,9 @@ fn judge_few(kinds: &[u8], filter: &[u8], rows: &[u32], card: &[u8]) -> Result<b
     requires rows_len_bound { length rows.now ≤ 32 }
     ensures { (ps : List Parameter) → kinds.now ≡ kinds_of ps → (i : ℕ) → verdict_step result i ≡ card_verdict (cells_question ps filter.now rows.now) i card.now }
 {
-    let mut values = [0u64; 64];
-    let mut ends = [0i64; 64];
-    open_rows(kinds, filter, rows, &mut values, &mut ends);
-    judge_opened(kinds, filter, rows, &values, &ends, card)
+    let mut values = [None; 32];
+    open_rows(kinds, filter, rows, &mut values);
+    judge_opened(kinds, filter, rows, &values, card)
 }
 
 // The same of rows that are opened for this card alone; good rows are that few.
@@ -112,8 +107,7 @@ pub fn judge_once(kinds: &[u8], filter: &[u8], rows: &[u32], card: &[u8]) -> Res
     if rows.len() <= 32 {
         return judge_few(kinds, filter, rows, card);
     }
-    let mut values = [0u64; 640];
-    let mut ends = [0i64; 640];
-    open_rows(kinds, filter, rows, &mut values, &mut ends);
-    judge_opened(kinds, filter, rows, &values, &ends, card)
+    let mut values = [None; 320];
+    open_rows(kinds, filter, rows, &mut values);
+    judge_opened(kinds, filter, rows, &values, card)
 }

@@ -1,6 +1,6 @@
 -- The parameters that rows ask about are kept: those of the rows before i are, and so they stay. What was opened and read is then ready.
 -- Assumes nothing.
-use Rattle.std.specs.Prelude.{Ok}
+use Rattle.std.specs.Prelude.{Option}
 use Prim.Native.Nat.{ℕ, ◌+◌, ◌≤◌, ◌<◌}
 use native.Mathlib.Omega.{arith}
 use mathlib.Core.Path.{◌≡◌, refl, ap, sym, ◌∙◌, subst}
@@ -20,6 +20,7 @@ use Rattle.card_reader.specs.Lists.{Lent, kinds_in, KeepsCard, BeginsAlike, Read
 use Rattle.card_reader.specs.Lending.{Lends, Keeps}
 use Rattle.card_reader.proofs.Lends.{kinds-alike}
 use Rattle.row_opener.specs.Opening.{Opens}
+use Rattle.row_opener.specs.declared.Opened.{Opened}
 use Rattle.row_judge.specs.Saying.{rows_say, Whole, Ready}
 use Rattle.row_judge.specs.Asking.{KeepsTests, LentFor}
 
@@ -73,13 +74,13 @@ lent-on kinds rows before cells spans₀ spans l w a =
     }
 
 -- rows that were opened are ready for a card of which all is kept
-pub lent-ready : (kinds xs rows card cells : List ℕ) (spans : List ℤ) → LentFor kinds rows cells spans → (values : List ℕ) (ends : List ℤ) → length xs ≤ 1024 → Whole rows → Opens kinds xs rows values ends (length rows)
-    → KeepsCard card cells spans → Ready xs rows values ends card cells spans
-lent-ready kinds xs rows card cells spans l values ends h e o k =
+pub lent-ready : (kinds xs rows card cells : List ℕ) (spans : List ℤ) → LentFor kinds rows cells spans → (values : List (Option Opened)) → length xs ≤ 1024 → Whole rows → Opens kinds xs rows values (length rows)
+    → KeepsCard card cells spans → Ready xs rows values card cells spans
+lent-ready kinds xs rows card cells spans l values h e o k =
     record {
       short = h;
       whole = e;
-      opens = subst (λ (n : List ℕ). Opens n xs rows values ends (length rows)) (sym l.kinds_are) o;
+      opens = subst (λ (n : List ℕ). Opens n xs rows values (length rows)) (sym l.kinds_are) o;
       keeps = k;
       all_kept = l.all_kept;
     }
@@ -91,8 +92,8 @@ module _ (kinds xs rows card before cells : List ℕ) (spans₀ spans : List ℤ
   read-lent : LentFor kinds rows cells spans
   read-lent = lent-on kinds rows before cells spans₀ spans l w.lent w.begins
 
-  pub read-ready : (values : List ℕ) (ends : List ℤ) → length xs ≤ 1024 → Whole rows → Opens kinds xs rows values ends (length rows) → r ≡ true → Ready xs rows values ends card cells spans
-  read-ready values ends h e o y = lent-ready kinds xs rows card cells spans read-lent values ends h e o (w.keeps y)
+  pub read-ready : (values : List (Option Opened)) → length xs ≤ 1024 → Whole rows → Opens kinds xs rows values (length rows) → r ≡ true → Ready xs rows values card cells spans
+  read-ready values h e o y = lent-ready kinds xs rows card cells spans read-lent values h e o (w.keeps y)
 
   pub read-says : (k : Chosen) (t : Bool) → t ≡ rows_say (kinds_in cells) xs (chosen_of k (entries_of card)) rows → t ≡ rows_say kinds xs (chosen_of k (entries_of card)) rows
   read-says k t e = e ∙ ap (λ (n : List ℕ). rows_say n xs (chosen_of k (entries_of card)) rows) read-lent.kinds_are

@@ -4,8 +4,8 @@
 -- verdict of a test after brackets, by the set of the entries that are kept, is found from whether there is an entry that counts and of
 -- whose occurrence the rows in the brackets say yes (`each_is`, from `entry_is`, by induction on the entries).
 -- Assumes nothing.
-use Rattle.std.specs.Prelude.{Option, Some, None, Ok}
-use Prim.Native.Nat.{ℕ, zero, suc, ◌+◌, ◌*◌, ◌-◌, ◌/◌, ◌≤◌, ◌<◌}
+use Rattle.std.specs.Prelude.{Option, Some, None}
+use Prim.Native.Nat.{ℕ, zero, suc, ◌+◌, ◌-◌, ◌/◌, ◌≤◌, ◌<◌}
 use native.Mathlib.Omega.{arith}
 use mathlib.Core.Path.{◌≡◌, refl, sym, ap, ap₂, subst, ◌∙◌}
 use mathlib.Core.Bool.{Bool, true, false, cond, not, ◌&&◌, ◌||◌}
@@ -45,7 +45,7 @@ use Rattle.rows.proofs.Stating.{stated-encode, stated_are}
 use Rattle.card_reader.specs.Lists.{kinds_in, entry_cell, no_entry, IsKept, KeepsCard}
 use Rattle.card_reader.specs.Listed.{entry_counts, some_before, OnChain, FirstFrom}
 use Rattle.card_reader.proofs.Chains.{before_cons, chain_begins, chain_all, chain_holds, chain_room, chain_byte, chain_less, chain_on, chain_step, some_first}
-use Rattle.row_opener.specs.Opening.{opened_value, opened_by, opened_for, opened_in, opened_row, value_of, Known, opened_at}
+use Rattle.row_opener.specs.Opening.{opened_value, opened_by, opened_for, opened_in, opened_row, value_of, Known}
 use Rattle.row_opener.specs.declared.Opened.{Opened}
 use Rattle.row_opener.proofs.Opening.{opens_second}
 use Rattle.row_judge.specs.Saying.{probe_says_by, probe_says, expression_says, stated_says, rows_say, Whole, AllKept, Ready, Bracketed, decides, skipped, some_entry, occurrence_says, probe_says_each_by, probe_says_each, bracket_says}
@@ -283,18 +283,19 @@ module _ (xs : List ℕ) (m : Meaning) (o : Opened) (w : Known xs m o) where
   unfolding value_of
   plain_value_lem h = ap (λ (b : Bool). contents b (part xs o.start o.end)) (sym h)
 
-  pub escaped-read : o.escaped ≡ true → o.readings ≡ readings_for m (decode false (part xs o.start o.end))
-  escaped-read h = w.read ∙ ap (readings_for m) (sym (escaped-value h))
+  module _ (a b : ℕ) (s : a ≡ o.start) (t : b ≡ o.end) where
+    pub escaped-read : o.escaped ≡ true → o.readings ≡ readings_for m (decode false (part xs a b))
+    escaped-read h = w.read ∙ ap (readings_for m) (sym (escaped-value h) ∙ rw (s, t))
 
-  pub plain-read : o.escaped ≡ false → o.readings ≡ readings_for m (part xs o.start o.end)
-  plain-read h = w.read ∙ ap (readings_for m) (sym (plain_value_lem h))
+    pub plain-read : o.escaped ≡ false → o.readings ≡ readings_for m (part xs a b)
+    plain-read h = w.read ∙ ap (readings_for m) (sym (plain_value_lem h) ∙ rw (s, t))
 
-  module _ (k : Chosen) (card cells : List ℕ) (i from r : ℕ) where
-    pub escaped-first : o.escaped ≡ true → FirstFrom (entry_counts k m (decode false (part xs o.start o.end))) card cells i from r → FirstFrom (entry_counts k m (value_of xs o)) card cells i from r
-    escaped-first h f = first-same k m card cells i from r (escaped-value h) f
+    module _ (k : Chosen) (card cells : List ℕ) (i from r : ℕ) where
+      pub escaped-first : o.escaped ≡ true → FirstFrom (entry_counts k m (decode false (part xs a b))) card cells i from r → FirstFrom (entry_counts k m (value_of xs o)) card cells i from r
+      escaped-first h f = first-same k m card cells i from r (rw (s, t) (escaped-value h)) f
 
-    pub plain-first : o.escaped ≡ false → FirstFrom (entry_counts k m (part xs o.start o.end)) card cells i from r → FirstFrom (entry_counts k m (value_of xs o)) card cells i from r
-    plain-first h f = first-same k m card cells i from r (plain_value_lem h) f
+      pub plain-first : o.escaped ≡ false → FirstFrom (entry_counts k m (part xs a b)) card cells i from r → FirstFrom (entry_counts k m (value_of xs o)) card cells i from r
+      plain-first h f = first-same k m card cells i from r (rw (s, t) (plain_value_lem h)) f
 
 -- ---- a test without brackets, by the lists of the card
 
@@ -511,8 +512,8 @@ module _ (kinds xs rows : List ℕ) (k : Chosen) (all : List Entry) where
         pub part-size : length part_rows ≡ n + 1
         part-size = part_length rows (at + 1) (at + 1 + n + 1) bracket_room ∙ (omega arith)
 
-        pub bracket_ready : {values : List ℕ} {ends : List ℤ} {card cells : List ℕ} {spans : List ℤ} → Ready xs rows values ends card cells spans
-            → Bracketed xs part_rows (take (length values - 2 * (at + 1)) (drop (2 * (at + 1)) values)) (take (length ends - 2 * (at + 1)) (drop (2 * (at + 1)) ends)) card cells spans
+        pub bracket_ready : {values : List (Option Opened)} {card cells : List ℕ} {spans : List ℤ} → Ready xs rows values card cells spans
+            → Bracketed xs part_rows (take (length values - (at + 1)) (drop (at + 1) values)) card cells spans
         bracket_ready w =
             record {
               short = w.short;
@@ -534,29 +535,23 @@ module _ (kinds xs rows : List ℕ) (k : Chosen) (all : List Entry) where
 
 -- ---- rows that are ready, and a test after brackets
 
-module _ {xs rows values : List ℕ} {ends : List ℤ} {card cells : List ℕ} {spans : List ℤ} (w : Ready xs rows values ends card cells spans) (at : ℕ) (l : at < length rows) where
-  pub ready-value : 2 * at + 1 < length values
+module _ {xs rows : List ℕ} {values : List (Option Opened)} {card cells : List ℕ} {spans : List ℤ} (w : Ready xs rows values card cells spans) (at : ℕ) (l : at < length rows) where
+  pub ready-value : at < length values
   ready-value = omega (arith, l, w.opens.room)
 
-  pub ready_end : 2 * at + 1 < length ends
-  ready_end = omega (arith, l, w.opens.ends_room)
-
   module _ (r : Row) (e : r ≡ row_of (get_or rows at 0)) (p : Probe) (j : r ≡ Row.Test p) where
-    pub ready_test : (o : Option Opened) → o ≡ opened_at values ends at → o ≡ opened_for (kinds_in cells) xs p
+    pub ready_test : (o : Option Opened) → o ≡ get_or values at None → o ≡ opened_for (kinds_in cells) xs p
     unfolding opened_row
     ready_test o h = h ∙ w.opens.each at l ∙ ap (opened_in (kinds_in cells) xs) (sym e ∙ j)
 
     pub ready_kept : get_or cells (544 + p.index) 0 ≡ 0
     ready_kept = w.all_kept.each at l p (sym e ∙ j)
 
-module _ {xs rows values : List ℕ} {ends : List ℤ} {card cells : List ℕ} {spans : List ℤ} (w : Bracketed xs rows values ends card cells spans) where
-  pub bracketed_value : 1 < length values
+module _ {xs rows : List ℕ} {values : List (Option Opened)} {card cells : List ℕ} {spans : List ℤ} (w : Bracketed xs rows values card cells spans) where
+  pub bracketed_value : 0 < length values
   bracketed_value = omega (arith, w.some_row, w.opens.room)
 
-  pub bracketed_end : 1 < length ends
-  bracketed_end = omega (arith, w.some_row, w.opens.ends_room)
-
-  pub bracketed_inner : Ready xs (take (length rows - 1) (drop 1 rows)) (take (length values - 2) (drop 2 values)) (take (length ends - 2) (drop 2 ends)) card cells spans
+  pub bracketed_inner : Ready xs (take (length rows - 1) (drop 1 rows)) (take (length values - 1) (drop 1 values)) card cells spans
   bracketed_inner =
       record {
         short = w.short;
@@ -579,7 +574,7 @@ module _ {xs rows values : List ℕ} {ends : List ℤ} {card cells : List ℕ} {
     pub bracketed_chain : (from : ℕ) → from ≡ get_or cells p.index 0 → OnChain card cells p.index from
     bracketed_chain from e = chain_begins card cells spans w.keeps p.index from bracketed_index bracketed_kept e
 
-    module _ (c : Option Opened) (h : c ≡ opened_at values ends 0) where
+    module _ (c : Option Opened) (h : c ≡ get_or values 0 None) where
       opened_is : c ≡ opened_for (kinds_in cells) xs p
       unfolding opened_row
       opened_is = h ∙ w.opens.each 0 (omega (arith, w.some_row)) ∙ ap (opened_in (kinds_in cells) xs) (w.row ∙ ap Row.Test test_is)
@@ -606,21 +601,21 @@ module _ {xs rows values : List ℕ} {ends : List ℤ} {card cells : List ℕ} {
         unfolding in_brackets
         bracket_opened s r q y = probe_opened (kinds_in cells) xs p c opened_is o f inner_rows k (entries_of card) m kind s r a b q y ∙ ap (λ (x : Probe). probe_says_each (kinds_in cells) xs inner_rows x k (entries_of card)) i
 
-  pub bracket_closed : (k : Chosen) (c : Option Opened) → c ≡ opened_at values ends 0 → c ≡ None → false ≡ bracket_says (kinds_in cells) xs rows k (entries_of card)
+  pub bracket_closed : (k : Chosen) (c : Option Opened) → c ≡ get_or values 0 None → c ≡ None → false ≡ bracket_says (kinds_in cells) xs rows k (entries_of card)
   bracket_closed k c h f = bracket_none (probe_of (get_or rows 0 0 / 8)) refl c h k f
 
 -- ---- the loop of a test after brackets
 
 -- what it keeps: n is an entry that counts, or 0, and the entries from it on decide
-pub record Brackets (xs rows values : List ℕ) (ends : List ℤ) (card cells : List ℕ) (spans : List ℤ) (k : Chosen) (i : ℕ) (m : Meaning) (o : Opened) (n : ℕ) : Type 0 where
-  pub ready : Bracketed xs rows values ends card cells spans
+pub record Brackets (xs rows : List ℕ) (values : List (Option Opened)) (card cells : List ℕ) (spans : List ℤ) (k : Chosen) (i : ℕ) (m : Meaning) (o : Opened) (n : ℕ) : Type 0 where
+  pub ready : Bracketed xs rows values card cells spans
   pub known : Known xs m o
   pub choosing : Choosing (in_brackets (kinds_in cells) xs rows (entries_of card)) k i m (value_of xs o) card cells spans (some_entry (in_brackets (kinds_in cells) xs rows (entries_of card)) k i m (value_of xs o) (entries_of card)) n
   pub answers : (s r : Bool) → s ≡ some_entry (in_brackets (kinds_in cells) xs rows (entries_of card)) k i m (value_of xs o) (entries_of card) → r ≡ some_says m o.truth s → r ≡ bracket_says (kinds_in cells) xs rows k (entries_of card)
 
-module _ (xs rows values : List ℕ) (ends : List ℤ) (card cells : List ℕ) (spans : List ℤ) (k : Chosen) (m : Meaning) (o : Opened) where
-  pub brackets_start : (p : Probe) (r' : Option Opened) (kind from r : ℕ) → Bracketed xs rows values ends card cells spans → p ≡ probe_of (get_or rows 0 0 / 8) → r' ≡ opened_at values ends 0 → r' ≡ Some o → kind ≡ get_or (kinds_in cells) p.index 0
-      → m ≡ meaning_of p.operator kind → from ≡ get_or cells p.index 0 → FirstFrom (entry_counts k m (value_of xs o)) card cells p.index from r → Brackets xs rows values ends card cells spans k p.index m o r
+module _ (xs rows : List ℕ) (values : List (Option Opened)) (card cells : List ℕ) (spans : List ℤ) (k : Chosen) (m : Meaning) (o : Opened) where
+  pub brackets_start : (p : Probe) (r' : Option Opened) (kind from r : ℕ) → Bracketed xs rows values card cells spans → p ≡ probe_of (get_or rows 0 0 / 8) → r' ≡ get_or values 0 None → r' ≡ Some o → kind ≡ get_or (kinds_in cells) p.index 0
+      → m ≡ meaning_of p.operator kind → from ≡ get_or cells p.index 0 → FirstFrom (entry_counts k m (value_of xs o)) card cells p.index from r → Brackets xs rows values card cells spans k p.index m o r
   brackets_start p r' kind from r w i h f a b e c =
       record {
         ready = w;
@@ -629,7 +624,7 @@ module _ (xs rows values : List ℕ) (ends : List ℤ) (card cells : List ℕ) (
         answers = bracket_opened w p i r' h o f k m kind a b;
       }
 
-  module _ (i n : ℕ) (inv : Brackets xs rows values ends card cells spans k i m o n) where
+  module _ (i n : ℕ) (inv : Brackets xs rows values card cells spans k i m o n) where
     pub brackets_end : (r : Bool) → n ≤ 0 → r ≡ some_says m o.truth false → r ≡ bracket_says (kinds_in cells) xs rows k (entries_of card)
     brackets_end r z y = inv.answers false r (choosing_end (in_brackets (kinds_in cells) xs rows (entries_of card)) k i m (value_of xs o) card cells spans (some_entry (in_brackets (kinds_in cells) xs rows (entries_of card)) k i m (value_of xs o) (entries_of card)) n inv.choosing z) y
 
@@ -665,7 +660,7 @@ module _ (xs rows values : List ℕ) (ends : List ℤ) (card cells : List ℕ) (
         brackets_yes t z g = inv.answers true t (choosing_yes says k i m (value_of xs o) card cells spans answer n inv.choosing l q qe r said z) g
 
         module _ (b : ℕ) (be : b ≡ get_or cells (entry_cell (n - 1)) 0) where
-          pub brackets_next : (a : ℕ) → FirstFrom (entry_counts k m (value_of xs o)) card cells i b a → r ≡ false → Brackets xs rows values ends card cells spans k i m o a
+          pub brackets_next : (a : ℕ) → FirstFrom (entry_counts k m (value_of xs o)) card cells i b a → r ≡ false → Brackets xs rows values card cells spans k i m o a
           brackets_next a f z =
               record {
                 ready = inv.ready;

@@ -19,6 +19,7 @@ use Rattle.rows.specs.declared.Probe.{Probe}
 use Rattle.rows.specs.declared.Row.{Row}
 use Rattle.card_reader.specs.Lists.{kinds_in, KeepsCard}
 use Rattle.row_opener.specs.Opening.{Opens}
+use Rattle.row_opener.specs.declared.Opened.{Opened}
 
 -- ---- an expression
 
@@ -55,21 +56,21 @@ pub record AllKept (rows cells : List ℕ) : Type 0 where
   pub each : (j : ℕ) → j < length rows → (p : Probe) → row_of (get_or rows j 0) ≡ Row.Test p → get_or cells (544 + p.index) 0 ≡ 0
 
 -- rows that state an expression, were opened, and are to be judged on a well-formed card that was read; the kinds are those of its lists
-pub record Ready (xs rows values : List ℕ) (ends : List ℤ) (card cells : List ℕ) (spans : List ℤ) : Type 0 where
+pub record Ready (xs rows : List ℕ) (values : List (Option Opened)) (card cells : List ℕ) (spans : List ℤ) : Type 0 where
   pub short : length xs ≤ 1024
   pub whole : Whole rows
-  pub opens : Opens (kinds_in cells) xs rows values ends (length rows)
+  pub opens : Opens (kinds_in cells) xs rows values (length rows)
   pub keeps : KeepsCard card cells spans
   pub all_kept : AllKept rows cells
 
 -- the row of a test and the rows of its brackets behind it, opened
-pub record Bracketed (xs rows values : List ℕ) (ends : List ℤ) (card cells : List ℕ) (spans : List ℤ) : Type 0 where
+pub record Bracketed (xs rows : List ℕ) (values : List (Option Opened)) (card cells : List ℕ) (spans : List ℤ) : Type 0 where
   pub short : length xs ≤ 1024
   pub some_row : 1 ≤ length rows
   pub test : Probe
   pub row : row_of (get_or rows 0 0) ≡ Row.Test test
   pub whole : Whole (take (length rows - 1) (drop 1 rows))
-  pub opens : Opens (kinds_in cells) xs rows values ends (length rows)
+  pub opens : Opens (kinds_in cells) xs rows values (length rows)
   pub keeps : KeepsCard card cells spans
   pub all_kept : AllKept rows cells
 

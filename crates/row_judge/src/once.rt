@@ -10,22 +10,21 @@ use crate::asks::lend_for;
 use crate::says::rows_say;
 use card_reader::read_entries;
 use judge::Chosen;
-use row_opener::open_rows;
+use row_opener::{Opened, open_rows};
 
 // What rows that were opened say of the entries that count of a card that conforms to a sheet with these kinds.
 fn say_opened(
     kinds: &[u8],
     filter: &[u8],
     rows: &[u32],
-    values: &[u64],
-    ends: &[i64],
+    values: &[Option<Opened>],
     card: &Card<'_>,
     chosen: Chosen,
 ) -> bool
     requires kinds_len { length kinds.now ≡ 32 }
     requires filter_len_bound { length filter.now ≤ 1024 }
     requires whole { Whole rows.now }
-    requires opens { Opens kinds.now filter.now rows.now values.now ends.now (length rows.now) }
+    requires opens { Opens kinds.now filter.now rows.now values.now (length rows.now) }
     requires card_value_2 { conforms_to kinds.now (entries_of card.now) ≡ true }
     ensures { result ≡ rows_say kinds.now filter.now (chosen_of chosen (entries_of card.now)) rows.now }
 {
@@ -33,7 +32,7 @@ fn say_opened(
     let mut spans = [0i64; 128];
     lend_for(kinds, rows, &mut cells, &spans);
     read_entries(kinds, card, &mut cells, &mut spans);
-    rows_say(filter, rows, values, ends, card, &cells, &spans, chosen)
+    rows_say(filter, rows, values, card, &cells, &spans, chosen)
 }
 
 // The same of rows that are opened for this card; good rows are that few.
@@ -45,8 +44,7 @@ pub fn say_once(kinds: &[u8], filter: &[u8], rows: &[u32], card: &Card<'_>, chos
     requires card_value_2 { conforms_to kinds.now (entries_of card.now) ≡ true }
     ensures { result ≡ rows_say kinds.now filter.now (chosen_of chosen (entries_of card.now)) rows.now }
 {
-    let mut values = [0u64; 640];
-    let mut ends = [0i64; 640];
-    open_rows(kinds, filter, rows, &mut values, &mut ends);
-    say_opened(kinds, filter, rows, &values, &ends, card, chosen)
+    let mut values = [None; 320];
+    open_rows(kinds, filter, rows, &mut values);
+    say_opened(kinds, filter, rows, &values, card, chosen)
 }

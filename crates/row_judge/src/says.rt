@@ -15,7 +15,7 @@ use card::Card;
 use crate::Asked;
 use card_reader::{Question, chain_behind, chain_of, kind_at, next_counting, occurrence_of};
 use judge::{Chosen, some_says};
-use row_opener::{Opened, opened_at};
+use row_opener::Opened;
 use rows::{Probe, Row, probe_of, row_of};
 use syntax::Connective;
 use syntax::value::decode;
@@ -83,7 +83,7 @@ fn next_text(
         meaning: asked.meaning,
         readings: opened.readings,
     };
-    let value = &filter[opened.start..opened.end];
+    let value = &filter[usize::from(opened.start)..usize::from(opened.end)];
     if opened.escaped {
         return next_escaped(value, card, cells, spans, chosen, question, from);
     }
@@ -128,17 +128,16 @@ fn plain_says(
 fn bracket_says(
     filter: &[u8],
     rows: &[u32],
-    values: &[u64],
-    ends: &[i64],
+    values: &[Option<Opened>],
     card: &Card<'_>,
     cells: &[u64],
     spans: &[i64],
     chosen: Chosen,
 ) -> bool
-    requires { Bracketed filter.now rows.now values.now ends.now card.now cells.now spans.now }
+    requires { Bracketed filter.now rows.now values.now card.now cells.now spans.now }
     ensures { result ≡ bracket_says (kinds_in cells.now) filter.now rows.now chosen (entries_of card.now) }
 {
-    let Some(opened) = opened_at(values, ends, 0) else {
+    let Some(opened) = values[0] else {
         return false;
     };
     let probe = probe_of(rows[0] / 8);
@@ -154,16 +153,7 @@ fn bracket_says(
     while next > 0 {
         let e = next - 1;
         let own = Some(occurrence_of(cells, e));
-        if rows_say(
-            filter,
-            &rows[1..],
-            &values[2..],
-            &ends[2..],
-            card,
-            cells,
-            spans,
-            own,
-        ) {
+        if rows_say(filter, &rows[1..], &values[1..], card, cells, spans, own) {
             return some_says(meaning, opened.truth, true);
         }
         let behind = chain_behind(cells, e);
@@ -177,14 +167,13 @@ fn bracket_says(
 pub fn rows_say(
     filter: &[u8],
     rows: &[u32],
-    values: &[u64],
-    ends: &[i64],
+    values: &[Option<Opened>],
     card: &Card<'_>,
     cells: &[u64],
     spans: &[i64],
     chosen: Chosen,
 ) -> bool
-    requires { Ready filter.now rows.now values.now ends.now card.now cells.now spans.now }
+    requires { Ready filter.now rows.now values.now card.now cells.now spans.now }
     ensures { result ≡ rows_say (kinds_in cells.now) filter.now (chosen_of chosen (entries_of card.now)) rows.now }
 {
     let mut at = 0;
@@ -192,25 +181,14 @@ pub fn rows_say(
     while at < rows.len() {
         match row_of(rows[at]) {
             Row::Test(probe) => {
-                let opened = opened_at(values, ends, at);
-                verdict = plain_says(filter, card, cells, spans, chosen, probe, opened);
+                verdict = plain_says(filter, card, cells, spans, chosen, probe, values[at]);
                 at += 1;
             }
             Row::Bracket(size) => {
                 let first = at + 1;
                 let end = first + size + 1;
-                let cell = 2 * first;
                 let part = &rows[first..end];
-                verdict = bracket_says(
-                    filter,
-                    part,
-                    &values[cell..],
-                    &ends[cell..],
-                    card,
-                    cells,
-                    spans,
-                    chosen,
-                );
+                verdict = bracket_says(filter, part, &values[first..], card, cells, spans, chosen);
                 at = end;
             }
             Row::Not => {

@@ -1,3 +1,2 @@
--- What the values of rows read to, and the cells that have it.
+-- What the values of rows read to.
 pub mod Opening
-pub mod Packing

@@ -14,7 +14,7 @@ use one_card::{judge_by_rows, judge_by_text};
 use query::Rows;
 use refusal::Reason;
 use row_judge::lend_for;
-use row_opener::open_rows;
+use row_opener::{Opened, open_rows};
 use searching::judge_by_search;
 use sheet::Sheet;
 
@@ -40,8 +40,7 @@ pub struct ByRows<'a> {
     kinds: [u8; 32],
     text: &'a [u8],
     rows: &'a [u32],
-    values: [u64; 640],
-    ends: [i64; 640],
+    values: [Option<Opened>; 320],
     cells: [u64; 608],
     spans: [i64; 128],
 }
@@ -51,13 +50,12 @@ impl<'a> ByRows<'a> {
         requires text_len_bound { length text.now ≤ 1024 }
         requires whole { Whole rows.now }
         requires rows_len_bound { length rows.now ≤ 320 }
-        ensures ready { RowsReady sheet.now result.kinds text.now rows.now result.values result.ends result.cells result.spans }
+        ensures ready { RowsReady sheet.now result.kinds text.now rows.now result.values result.cells result.spans }
         ensures parts { (result.sheet.now ≡ sheet.now) × (result.text.now ≡ text.now) × (result.rows.now ≡ rows.now) }
     {
         let kinds = sheet.kinds();
-        let mut values = [0u64; 640];
-        let mut ends = [0i64; 640];
-        open_rows(&kinds, text, rows, &mut values, &mut ends);
+        let mut values = [None; 320];
+        open_rows(&kinds, text, rows, &mut values);
         let mut cells = [0u64; 608];
         let spans = [0i64; 128];
         lend_for(&kinds, rows, &mut cells, &spans);
@@ -67,7 +65,6 @@ impl<'a> ByRows<'a> {
             text,
             rows,
             values,
-            ends,
             cells,
             spans,
         }
@@ -75,7 +72,7 @@ impl<'a> ByRows<'a> {
 }
 
 impl<'a> Asking for ByRows<'a> {
-    ghost ready = { λ asked. RowsReady asked.sheet.now asked.kinds asked.text.now asked.rows.now asked.values asked.ends asked.cells asked.spans };
+    ghost ready = { λ asked. RowsReady asked.sheet.now asked.kinds asked.text.now asked.rows.now asked.values asked.cells asked.spans };
 
     ghost question = { λ asked. cells_question (parameters_of asked.sheet.now) asked.text.now asked.rows.now };
 
@@ -85,7 +82,6 @@ impl<'a> Asking for ByRows<'a> {
             self.text,
             self.rows,
             &self.values,
-            &self.ends,
             card,
             &mut self.cells,
             &mut self.spans,

@@ -4,7 +4,7 @@ use Rattle.row_judge.proofs.Asking.{read-ready, read-says, read_conforming}
 use Rattle.row_judge.proofs.once.say_opened.Goals as goal
 
 pub rows_say-requires : goal.rows_say-requires
-rows_say-requires c = let start = c.requires in let read = c.read_entries.ensures in read-ready _ _ _ _ _ _ _ _ _ c.lend_for.ensures read _ _ (search (start, rules)) (search (start, rules)) (search (start, rules)) (read_conforming _ _ _ _ _ _ read (search (start, rules)))
+rows_say-requires c = let start = c.requires in let read = c.read_entries.ensures in read-ready _ _ _ _ _ _ _ _ _ c.lend_for.ensures read _ (search (start, rules)) (search (start, rules)) (search (start, rules)) (read_conforming _ _ _ _ _ _ read (search (start, rules)))
 
 pub returns : goal.returns
 returns c = read-says _ _ _ _ _ _ _ _ _ c.lend_for.ensures c.read_entries.ensures _ _ c.rows_say.ensures

@@ -18,7 +18,7 @@ abbrev pub decreases-rows_say : goal.decreases-rows_say
 decreases-rows_say l = 2 * length l.rows.now
 
 abbrev pub invariant-bracket_says-loop-next : goal.invariant-bracket_says-loop-next
-invariant-bracket_says-loop-next l = Brackets l.filter l.rows l.values l.ends l.card l.cells l.spans l.chosen l.index l.meaning l.opened l.next
+invariant-bracket_says-loop-next l = Brackets l.filter l.rows l.values l.card l.cells l.spans l.chosen l.index l.meaning l.opened l.next
 
 abbrev pub invariant-rows_say-loop-at : goal.invariant-rows_say-loop-at
 invariant-rows_say-loop-at l =
