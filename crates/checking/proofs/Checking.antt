@@ -26,7 +26,7 @@ use Rattle.filter.proofs.Reading.{walked_cases, reading_is}
 use Rattle.refusal.specs.declared.Reason.{Reason}
 use Rattle.refusal.specs.declared.Refusal.{Refusal}
 use Rattle.refusal.specs.Answers.{Answer, count, refused, number_of, refusal_answer, counted_answer}
-use Rattle.refusal.specs.Steps.{Step, found, stop, ◌>>=◌, answer}
+use Rattle.refusal.specs.Steps.{Step, found, stop, refusal_step, ◌>>=◌, answer}
 use Rattle.answer.specs.Operations.{accept_filter, decision_step, tests_step, sheet_step, accept_sheet, filter_answer, Inputs, accept_inputs, check_answer}
 use Rattle.answer.specs.Passing.{summary_answer}
 use Rattle.answer.proofs.Inputs.{text_read}
@@ -118,6 +118,6 @@ module _ (b xs : List ℕ) (c : Result ℕ Refusal) where
   unfolding counted_answer refusal_answer check_answer accept_inputs
   check_refused x h = rw h
 
-  pub check_filter : read_sheet b ≡ (Ok tt) → counted_answer c ≡ filter_answer (parameters_of b) xs → counted_answer c ≡ check_answer b xs
+  pub check_filter : (k : List ℕ) → (k ≡ b) × (read_sheet b ≡ (Ok tt)) → counted_answer c ≡ filter_answer (parameters_of k) xs → counted_answer c ≡ check_answer b xs
   unfolding check_answer accept_inputs accept_sheet filter_answer
-  check_filter h g = g ∙ rw h (sym (ap answer (count_filter (parameters_of b) (accept_filter xs))))
+  check_filter k h g = g ∙ rw (h.0, h.1) (sym (ap answer (count_filter (parameters_of b) (accept_filter xs))))

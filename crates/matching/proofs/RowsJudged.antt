@@ -18,8 +18,8 @@ use Rattle.rows.specs.Stated.{tree_of}
 use Rattle.rows.proofs.Good.{good_few}
 use Rattle.row_judge.proofs.Meaning.{good-whole, rows_mean}
 use Rattle.refusal.specs.declared.Reason.{Reason}
-use Rattle.refusal.specs.Answers.{yes_or_no, refused, number_of, matched_answer}
-use Rattle.refusal.specs.Steps.{found, stop, ◌>>=◌, answer}
+use Rattle.refusal.specs.Answers.{yes_or_no, refused, number_of, matched_answer, refusal_answer}
+use Rattle.refusal.specs.Steps.{found, stop, refusal_step, ◌>>=◌, answer}
 use Rattle.answer.specs.Operations.{sheet_step, accept_sheet, Card, accept_card}
 use Rattle.answer.specs.Passing.{card_verdict}
 use Rattle.one_card.specs.OneCard.{verdict_step, verdict_answer, cells_question}
@@ -90,6 +90,6 @@ module _ (b xs cs card : List ℕ) (r : Result Bool Refusal) where
   unfolding matched_answer refusal_answer judge_answer
   judge_refused x h = rw h
 
-  pub judge_right : read_sheet b ≡ (Ok tt) → matched_answer r ≡ rows_answer (parameters_of b) xs cs card → matched_answer r ≡ judge_answer b xs cs card
+  pub judge_right : (k : List ℕ) → (k ≡ b) × (read_sheet b ≡ (Ok tt)) → matched_answer r ≡ rows_answer (parameters_of k) xs cs card → matched_answer r ≡ judge_answer b xs cs card
   unfolding judge_answer accept_sheet rows_answer
-  judge_right i h = h ∙ sym (rw i)
+  judge_right k i h = h ∙ sym (rw (i.0, i.1))

@@ -126,7 +126,10 @@ module _ (kinds b cells : List ℕ) (spans : List ℤ) (l : Lent cells spans) wh
         keeps = λ c z. absurd (let y : ◌≡◌ {A = ℕ} 0 1 = cc in omega arith);
       }
 
-module _ (kinds b : List ℕ) (h : read_card b ≡ (Ok tt)) (before cells : List ℕ) (spans : List ℤ) (o : Bool) (w : ReadsCard kinds b before cells spans o) where
+module _ (kinds b k : List ℕ) (s : k ≡ b) (h : read_card b ≡ (Ok tt)) (before cells : List ℕ) (spans : List ℤ) (o : Bool) (r : ReadsCard kinds k before cells spans o) where
+  w : ReadsCard kinds b before cells spans o
+  w = subst (λ (d : List ℕ). ReadsCard kinds d before cells spans o) s r
+
   pub takes_misfit : o ≡ false → TakesCard kinds b before cells spans (Err Reason.CardMisfit)
   takes_misfit n =
       record {
@@ -136,8 +139,10 @@ module _ (kinds b : List ℕ) (h : read_card b ≡ (Ok tt)) (before cells : List
         keeps = λ c z. absurd (let y : ◌≡◌ {A = ℕ} 0 1 = cc in omega arith);
       }
 
-  pub takes_conforming : o ≡ true → TakesCard kinds b before cells spans (Ok b)
-  takes_conforming y = record { accepts = accepts_conforming kinds b o w.answer h y; lent = w.lent; begins = w.begins; keeps = λ _ _. w.keeps y }
+  pub takes_conforming : o ≡ true → TakesCard kinds b before cells spans (Ok k)
+  takes_conforming y =
+      subst (λ (d : List ℕ). TakesCard kinds b before cells spans (Ok d)) (sym s)
+      (record { accepts = accepts_conforming kinds b o w.answer h y; lent = w.lent; begins = w.begins; keeps = λ _ _. w.keeps y })
 
 module _ (kinds xs rows b before cells : List ℕ) (spans₀ spans : List ℤ) (t : Result (List ℕ) Reason) (l : LentFor kinds rows before spans₀) (w : TakesCard kinds b before cells spans t) where
   -- the lists stay lent for the rows

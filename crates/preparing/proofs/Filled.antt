@@ -190,9 +190,9 @@ module _ (b xs : List ℕ) (buffer : List ℕ) where
   fill_refused x h =
       record { rows = refused_step (Err x) buffer (number_of x.reason) x.place (refused_counted x) ∙ sym (rw h); room = λ m q. absurd (refused_room (Err x) (number_of x.reason) x.place (refused_counted x) m q) }
 
-  pub fill_right : (r : Result ℕ Refusal) → read_sheet b ≡ (Ok tt) → FillsText (parameters_of b) xs r buffer → Fills b xs r buffer
+  pub fill_right : (r : Result ℕ Refusal) (k : List ℕ) → (k ≡ b) × (read_sheet b ≡ (Ok tt)) → FillsText (parameters_of k) xs r buffer → Fills b xs r buffer
   unfolding accept_inputs accept_sheet text_rows
-  fill_right r i f = record { rows = f.rows ∙ sym (rw i (rows_filter (parameters_of b) xs (accept_filter xs))); room = f.room }
+  fill_right r k i f = record { rows = f.rows ∙ sym (rw (i.0, i.1) (rows_filter (parameters_of b) xs (accept_filter xs))); room = f.room }
 
 -- ---- the list
 

@@ -20,7 +20,7 @@ use Rattle.query.specs.Rows.{RowsWithin, alternatives_in, rows_say, AcceptsQuery
 use Rattle.query.specs.declared.Rows.{Rows}
 use Rattle.query.proofs.Accepted.{accepted_rows, accepted_refused}
 use Rattle.refusal.specs.Answers.{Answer, count, refused, number_of, refusal_answer, counted_answer, matched_answer}
-use Rattle.refusal.specs.Steps.{Step, found, stop, ◌>>=◌, answer}
+use Rattle.refusal.specs.Steps.{Step, found, stop, refusal_step, ◌>>=◌, answer}
 use Rattle.refusal.specs.declared.Refusal.{Refusal}
 use Rattle.answer.specs.Operations.{decision_step, sheet_step, accept_sheet}
 use Rattle.answer.specs.Passing.{summary_answer, card_verdict}
@@ -31,9 +31,6 @@ use Rattle.one_card.proofs.Judging.{match_answered}
 use Rattle.one_card.specs.OneCard.{verdict_step, verdict_answer}
 use Rattle.refusal.specs.declared.Reason.{Reason}
 use Rattle.block.specs.declared.Flaw.{Flaw}
-
-pub sheet_known : (sheet : List ℕ) (r : Result ⊤ Flaw) → r ≡ read_sheet sheet → r ≡ (Ok tt) → read_sheet sheet ≡ (Ok tt)
-sheet_known sheet r e h = sym e ∙ h
 
 -- ---- a string that is refused: no count, so that nothing is asked of the rows
 
@@ -47,18 +44,8 @@ module _ (sheet text bytes : List ℕ) where
   refuses x e = record { answers = sym (unfold check_search_answer in rw e); passes = λ rows t. absurd (let z : ◌≡◌ {A = ℕ} 0 1 = cc in omega arith) }
 
   -- the sheet is refused
-  sheet_refuses : (r k : Result ⊤ Flaw) (x : Refusal) → ((ps : List Parameter) → sheet_step k ps ≡ stop (number_of x.reason) x.place) → r ≡ read_sheet sheet → r ≡ k → ReadsRows sheet text bytes (Err x)
-  sheet_refuses r k x t e i = refuses x (unfold accept_query_inputs accept_sheet in rw (sym e ∙ i, t (parameters_of sheet)))
-
-  module _ (r : Result ⊤ Flaw) (e : r ≡ read_sheet sheet) where
-    pub sheet_size : r ≡ (Err Flaw.Size) → ReadsRows sheet text bytes (Err (record { reason = Reason.SheetSize; place = 0 }))
-    sheet_size = sheet_refuses r (Err Flaw.Size) (record { reason = Reason.SheetSize; place = 0 }) (λ ps. refl) e
-
-    pub sheet_sum : r ≡ (Err Flaw.Sum) → ReadsRows sheet text bytes (Err (record { reason = Reason.SheetSum; place = 0 }))
-    sheet_sum = sheet_refuses r (Err Flaw.Sum) (record { reason = Reason.SheetSum; place = 0 }) (λ ps. refl) e
-
-    pub sheet_layout_lem : r ≡ (Err Flaw.Layout) → ReadsRows sheet text bytes (Err (record { reason = Reason.SheetLayout; place = 0 }))
-    sheet_layout_lem = sheet_refuses r (Err Flaw.Layout) (record { reason = Reason.SheetLayout; place = 0 }) (λ ps. refl) e
+  pub sheet_refuses : (x : Refusal) → accept_sheet sheet ≡ refusal_step x → ReadsRows sheet text bytes (Err x)
+  sheet_refuses x e = refuses x (unfold accept_query_inputs in rw e)
 
 -- the string is refused, as the definition refuses it
 pub text_refuses : (sheet text bytes : List ℕ) → read_sheet sheet ≡ (Ok tt) → (r : Result Rows Refusal) (x : Refusal) → AcceptsQuery text bytes r → r ≡ Err x → ReadsRows sheet text bytes (Err x)
@@ -133,12 +120,13 @@ passed_same : (f : Result ⊤ Refusal) (rows kept : Rows) → rows_passed f rows
 passed_same (Ok tt) rows kept e = cc
 passed_same (Err r) rows kept e = absurd (let z : ◌≡◌ {A = ℕ} 0 1 = cc in omega arith)
 
-pub rows_read : (sheet text bytes : List ℕ) → read_sheet sheet ≡ (Ok tt) → (r : Result Rows Refusal) (rows : Rows) → AcceptsQuery text bytes r → r ≡ Ok rows
-    → (s : Result Rows Refusal) → PassesRows (parameters_of sheet) bytes rows s → ReadsRows sheet text bytes s
+pub rows_read : (sheet text bytes k : List ℕ) → k ≡ sheet → read_sheet sheet ≡ (Ok tt) → (r : Result Rows Refusal) (rows : Rows) → AcceptsQuery text bytes r → r ≡ Ok rows
+    → (s : Result Rows Refusal) → PassesRows (parameters_of k) bytes rows s → ReadsRows sheet text bytes s
 unfolding rows_answer
-rows_read sheet text bytes w r rows t o s e =
+rows_read sheet text bytes k same w r rows t o s passed =
     let (q, of) = accepted_rows rows t o in
     let f : Result ⊤ Refusal = first_alternative_fault (parameters_of sheet) (alternatives_in bytes rows) in
+    let e : s ≡ rows_passed f rows = passed ∙ ap (λ (b : List ℕ). rows_passed (first_alternative_fault (parameters_of b) (alternatives_in bytes rows)) rows) same in
     let answered : counted_answer (counted_rows s) ≡ check_search_answer sheet text =
     ap (λ (x : Result Rows Refusal). counted_answer (counted_rows x)) e ∙ passed_answer f rows ∙ sym (rows_answer_lem sheet text bytes w rows q of) in
     record {

@@ -27,22 +27,14 @@ fn check_rows(sheet: &Sheet<'_>, bytes: &[u8], rows: Rows) -> Result<Rows, Refus
     Ok(rows)
 }
 
-// A search string on a well-formed sheet.
-fn read_text(sheet: &Sheet<'_>, text: &[u8], bytes: &mut [u8]) -> Result<Rows, Refusal>
-    requires in_bounds { 1024 ≤ length bytes.old }
-    ensures { ReadsRows sheet.now text.now bytes.new result }
-{
-    let rows = accept_query(text, bytes)?;
-    check_rows(sheet, bytes, rows)
-}
-
 // Reads a sheet and a search string: the rows, over the bytes that are written into the buffer, where check passes it; or its refusal.
 pub fn read_search(sheet: &[u8], text: &[u8], bytes: &mut [u8]) -> Result<Rows, Refusal>
     requires { 1024 ≤ length bytes.old }
     ensures { ReadsRows sheet.now text.now bytes.new result }
 {
     let sheet = accept_sheet(sheet)?;
-    read_text(&sheet, text, bytes)
+    let rows = accept_query(text, bytes)?;
+    check_rows(&sheet, bytes, rows)
 }
 
 // How many alternatives a search string has, where each has a meaning on every card that fits the sheet; or why not, and where.

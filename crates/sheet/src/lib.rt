@@ -125,7 +125,7 @@ fn sheet_layout(sheet: &[u8]) -> bool
 // A parameter sheet: bytes that are well formed (01: sound). A clause sees the bytes.
 #[derive(Drop)]
 pub struct Sheet<'a> {
-    bytes: &'a [u8],
+    pub bytes: &'a [u8],
 }
 
 impl<'a> Model for Sheet<'a> {

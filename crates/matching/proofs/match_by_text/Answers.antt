@@ -4,8 +4,8 @@ use Rattle.answer.proofs.Passing.{passing, passing_sheet, match_refused}
 use Rattle.one_card.proofs.Judging.{filter_answered}
 use Rattle.matching.proofs.match_by_text.Goals as goal
 
-pub kinds-kinds-requires : goal.kinds-kinds-requires
-kinds-kinds-requires c = search (passing_sheet, rules)
+pub invariant_of-sheet : goal.invariant_of-sheet
+invariant_of-sheet c = search (passing_sheet, rules)
 
 pub judge_by_text-requires : goal.judge_by_text-requires
 judge_by_text-requires c = search (passing, rules)

@@ -9,8 +9,8 @@ returns-then-filter-eq0 c = search (fill_empty, rules)
 pub returns-then-filter-gt1024 : goal.returns-then-filter-gt1024
 returns-then-filter-gt1024 c = search (fill_long, rules)
 
-pub write_filter-requires-clause-room : goal.write_filter-requires-clause-room
-write_filter-requires-clause-room c = search (fill_room, rules)
+pub write_filter-requires : goal.write_filter-requires
+write_filter-requires c = search (fill_room, rules)
 
 pub skip-after-requires : goal.skip-after-requires
 skip-after-requires c = search (fill_within, rules)

@@ -4,8 +4,8 @@ use Rattle.std.proofs.lemmas.Result.{err_from_is_err_and}
 use Rattle.searching.proofs.SearchPassing.{passed_sheet, passed_within, search_refused, search_answered}
 use Rattle.searching.proofs.match_search.Goals as goal
 
-pub kinds-kinds-requires : goal.kinds-kinds-requires
-kinds-kinds-requires c = search (passed_sheet, c.in_ok-rows.was, rules)
+pub invariant_of-sheet : goal.invariant_of-sheet
+invariant_of-sheet c = search (passed_sheet, c.in_ok-rows.was, rules)
 
 pub judge_by_search-requires : goal.judge_by_search-requires
 judge_by_search-requires c = search (passed_sheet, passed_within, c.in_ok-rows.was, rules)

@@ -1,16 +1,19 @@
 -- `searching::read_search` meets its contract: the sheet first, then the string. Assumes nothing.
 use borrow.Author.Rules.{rules}
-use Rattle.searching.proofs.SearchPassing.{sheet_known, sheet_size, sheet_sum, sheet_layout_lem}
+use Rattle.std.proofs.lemmas.Result.{err_from_is_err_and}
+use Rattle.searching.proofs.SearchPassing.{accepted_within, rows_read, sheet_refuses, text_refuses}
 use Rattle.searching.proofs.read_search.Goals as goal
 
-pub read_text-requires : goal.read_text-requires
-read_text-requires c = search (sheet_known, rules)
+pub returns-in_err-sheet : goal.returns-in_err-sheet
+returns-in_err-sheet c = let p = err_from_is_err_and c.from_residual.result c.from_residual.ensures.1 in rw (p.1, p.2) (search (sheet_refuses, c.in_err-sheet.ensures.refused, rules))
 
-pub returns-in-Err-Size : goal.returns-in-Err-Size
-returns-in-Err-Size c = search (sheet_size, rules)
+pub check_rows-requires : goal.check_rows-requires
+check_rows-requires c = search (accepted_within, c.in_ok-rows.was, rules)
 
-pub returns-in-Err-Sum : goal.returns-in-Err-Sum
-returns-in-Err-Sum c = search (sheet_sum, rules)
+pub returns-in_err-rows : goal.returns-in_err-rows
+returns-in_err-rows c =
+    let p = err_from_is_err_and c.from_residual-in_err-rows.result c.from_residual-in_err-rows.ensures.1 in
+    rw (p.1, p.2) (search (text_refuses, c.in_ok-sheet.ensures.accepted.1, c.in_err-rows.was, rules))
 
-pub returns-in-Err-Layout : goal.returns-in-Err-Layout
-returns-in-Err-Layout c = search (sheet_layout_lem, rules)
+pub returns : goal.returns
+returns c = let a = c.in_ok-sheet.ensures.accepted in search (rows_read, a.0, a.1, c.in_ok-rows.was, rules)

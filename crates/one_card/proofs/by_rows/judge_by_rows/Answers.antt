@@ -1,19 +1,20 @@
 -- `one_card::by_rows::judge_by_rows` meets its contract. Assumes nothing.
 use borrow.Author.Rules.{rules}
+use Rattle.std.proofs.lemmas.Result.{err_from_is_err_and}
 use Rattle.one_card.proofs.Judging.{taken-lent, taken-ready, taken-says, taken_refused}
 use Rattle.one_card.proofs.by_rows.judge_by_rows.Goals as goal
 
 pub rows_say-requires : goal.rows_say-requires
-rows_say-requires c = search (taken-ready, rules)
+rows_say-requires c = search (taken-ready, c.in_ok-card.was, rules)
 
-pub returns-in-Ok-clause-i_value : goal.returns-in-Ok-clause-i_value
-returns-in-Ok-clause-i_value c = search (taken-says, rules)
+pub returns-in_err-card-clause-i_value : goal.returns-in_err-card-clause-i_value
+returns-in_err-card-clause-i_value c = let p = err_from_is_err_and c.from_residual.result c.from_residual.ensures.1 in rw (p.1, p.2) (search (taken_refused, c.in_err-card.was, rules))
 
-pub returns-in-Ok-clause-lent_for_2 : goal.returns-in-Ok-clause-lent_for_2
-returns-in-Ok-clause-lent_for_2 c = search (taken-lent, rules)
+pub returns-in_err-card-clause-lent_for_2 : goal.returns-in_err-card-clause-lent_for_2
+returns-in_err-card-clause-lent_for_2 c = search (taken-lent, rules)
 
-pub returns-in-Err-clause-i_value : goal.returns-in-Err-clause-i_value
-returns-in-Err-clause-i_value c = search (taken_refused, rules)
+pub returns-clause-i_value : goal.returns-clause-i_value
+returns-clause-i_value c = search (taken-says, c.in_ok-card.was, rules)
 
-pub returns-in-Err-clause-lent_for_2 : goal.returns-in-Err-clause-lent_for_2
-returns-in-Err-clause-lent_for_2 c = search (taken-lent, rules)
+pub returns-clause-lent_for_2 : goal.returns-clause-lent_for_2
+returns-clause-lent_for_2 c = search (taken-lent, rules)
