@@ -12,10 +12,9 @@ use borrow.Author.Tests.{eq-eqb, ne_eqb}
 use Rattle.std.specs.List.{filter}
 use Rattle.base.specs.Parts.{part}
 use Rattle.base.proofs.Tests.{cond-elim}
-use Rattle.block.specs.Items.{items, ItemStep, Walk}
+use Rattle.block.specs.Items.{items}
 use Rattle.block.proofs.Items.{items-length, layout_count}
 use Rattle.card.specs.Card.{Entry, entry, entry_count, entries_of, read_card}
-use Rattle.card.proofs.Entries.{entries_walk}
 use Rattle.card.proofs.Read.{card_layout}
 use Rattle.judge.specs.Sets.{values_at}
 use Rattle.report.specs.Steps.{raise}

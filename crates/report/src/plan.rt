@@ -34,7 +34,7 @@ pub fn plan_of(sheet: &[u8], filter: &[u8], cards: &[u8], room: usize) -> Plan
     let selected = sirophan::select(sheet, filter, cards, &mut list);
     match selected {
         Ok(yes) => {
-            let n = usize::from(Sheet { bytes: sheet }.parameter_count());
+            let n = Sheet { bytes: sheet }.parameter_count() as usize;
             if n > room {
                 return refuse(Refusal {
                     reason: Reason::ShortRows,

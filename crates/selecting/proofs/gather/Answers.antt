@@ -9,8 +9,8 @@ loop-at-init g c = search (gathering_start, rules)
 pub overflow_add-end : goal.overflow_add-end
 overflow_add-end g c = search (gathering_part, rules)
 
-pub record_number-requires : goal.record_number-requires
-record_number-requires g c = search (asked_alike, gathering_well_formed, rules)
+pub invariant_of-record_number : goal.invariant_of-record_number
+invariant_of-record_number g c = search (asked_alike, gathering_well_formed, rules)
 
 pub offset_bounds-buffer-count : goal.offset_bounds-buffer-count
 offset_bounds-buffer-count g c = search (gathering_scaled, rules)

@@ -1,9 +1,12 @@
 -- `selecting::select_by_text` meets its contract: check first, then the cards. Assumes nothing.
 use borrow.Author.Rules.{rules}
 use Rattle.std.proofs.lemmas.Result.{err_from_is_err_and}
-use Rattle.answer.proofs.Passing.{passing}
+use Rattle.answer.proofs.Passing.{passing, passing_sheet}
 use Rattle.selecting.proofs.Selecting.{select_refused, text_selects}
 use Rattle.selecting.proofs.select_by_text.Goals as goal
+
+pub invariant_of-sheet : goal.invariant_of-sheet
+invariant_of-sheet c = search (passing_sheet, c.in_ok-check.was, rules)
 
 pub new-asking-requires : goal.new-asking-requires
 new-asking-requires c = search (passing, c.in_ok-check.was, rules)

@@ -4,8 +4,8 @@ use borrow.Author.Rules.{rules}
 use Rattle.report.proofs.Planning.{plan_sheet, plan_within, plan_fits, plan_refused, plan_short, plan_counts}
 use Rattle.report.proofs.plan.plan_of.Goals as goal
 
-pub parameter_count-n-requires : goal.parameter_count-n-requires
-parameter_count-n-requires c = search (plan_sheet, rules)
+pub invariant_of-parameter_count : goal.invariant_of-parameter_count
+invariant_of-parameter_count c = search (plan_sheet, rules)
 
 pub returns-then-n-room : goal.returns-then-n-room
 returns-then-n-room c = search (plan_short _ _ _ _ _ _ c.select-selected.ensures (search rules) (λ i. omega (arith, c.shared_slice_known-1.given i)) (λ i. omega (arith, c.shared_slice_known-3-1.given i)), rules)

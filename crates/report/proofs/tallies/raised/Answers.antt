@@ -12,8 +12,8 @@ overflow_mul-end c = search (step_fits, rules)
 pub overflow_sub-start : goal.overflow_sub-start
 overflow_sub-start c = search (step-card, rules)
 
-pub values_of-requires : goal.values_of-requires
-values_of-requires c = search (step_well_formed, rules)
+pub invariant_of-card : goal.invariant_of-card
+invariant_of-card c = search (step_well_formed, rules)
 
 pub raised_by-requires : goal.raised_by-requires
 raised_by-requires c = search (step_row, rules)
