@@ -2,7 +2,6 @@
 // numbers may stand in the fields of a date's text.
 ghost use Rattle.std.specs.Prelude.{◌≡◌};
 ghost use Rattle.date.specs.Calendar.{leap_year, year_length, month_length, days_before_month, day_number};
-ghost use Rattle.base.specs.Between.{between};
 ghost use Rattle.date.specs.Fields.{valid_year, valid_month, valid_day, valid_time, ValidMonth, ValidDay};
 
 // Whether a year is a leap year.
@@ -62,32 +61,27 @@ pub fn day_number(y: u64, m: u64, d: u64) -> u64
     365 * p + (p / 4 - p / 100 + p / 400) + days_before_month(y, m) + (d - 1)
 }
 
-// Whether a number lies between two bounds, both allowed.
-fn between(low: u64, n: u64, high: u64) -> bool
-    ensures { result ≡ between low high n }
-{
-    low <= n && n <= high
-}
-
 // Whether a year can be written: "Years 0001 to 9999".
+#[tactic(auto, unfolding(base::specs::Between::between))]
 pub fn valid_year(y: u64) -> bool
     ensures { result ≡ valid_year y }
 {
-    between(1, y, 9999)
+    matches!(y, 1..=9999)
 }
 
 // Whether it is a month of such a year: "months 01 to 12".
+#[tactic(auto, unfolding(crate::specs::Fields::valid_month, base::specs::Between::between))]
 pub fn valid_month(y: u64, m: u64) -> bool
     ensures { result ≡ valid_month y m }
 {
-    valid_year(y) && between(1, m, 12)
+    valid_year(y) && matches!(m, 1..=12)
 }
 
 // Whether it is a day of such a month: "only days which that month has".
 pub fn valid_day(y: u64, m: u64, d: u64) -> bool
     ensures { result ≡ valid_day y m d }
 {
-    valid_month(y, m) && between(1, d, month_length(y, m))
+    valid_month(y, m) && (1..=month_length(y, m)).contains(&d)
 }
 
 // Whether it is a time of the day: "hours 00 to 23, seconds 00 to 59".

@@ -7,23 +7,19 @@ use crate::Period;
 use date::Date;
 
 // Whether a start lies before an instant; a missing one does.
+#[tactic(auto, unfolding(crate::specs::Relations::starts_before))]
 fn starts_before(start: Option<i64>, t: i64) -> bool
     ensures { result ≡ starts_before start t }
 {
-    match start {
-        None => true,
-        Some(s) => s < t,
-    }
+    start.is_none_or(|s| s < t)
 }
 
 // Whether an end lies behind an instant; a missing one does.
+#[tactic(auto, unfolding(crate::specs::Relations::ends_after))]
 fn ends_after(end: Option<i64>, t: i64) -> bool
     ensures { result ≡ ends_after end t }
 {
-    match end {
-        None => true,
-        Some(e) => e > t,
-    }
+    end.is_none_or(|e| e > t)
 }
 
 // gt: "i1>f1".
@@ -41,6 +37,7 @@ pub fn earlier(i: Period, f: Date) -> bool
 }
 
 // eq: "the filter's range holds the card's range whole"; "I inside F".
+#[tactic(auto, unfolding(crate::specs::Relations::inside))]
 pub fn inside(i: Period, f: Date) -> bool
     ensures { result ≡ inside i f }
 {
@@ -48,6 +45,7 @@ pub fn inside(i: Period, f: Date) -> bool
 }
 
 // ge: "gt or I inside F".
+#[tactic(auto, unfolding(crate::specs::Relations::later_or_inside))]
 pub fn later_or_inside(i: Period, f: Date) -> bool
     ensures { result ≡ later_or_inside i f }
 {
@@ -55,6 +53,7 @@ pub fn later_or_inside(i: Period, f: Date) -> bool
 }
 
 // le: "lt or I inside F".
+#[tactic(auto, unfolding(crate::specs::Relations::earlier_or_inside))]
 pub fn earlier_or_inside(i: Period, f: Date) -> bool
     ensures { result ≡ earlier_or_inside i f }
 {
@@ -90,6 +89,7 @@ pub fn ends_before(i: Period, f: Date) -> bool
 }
 
 // po: "i0<f1 and f0<i1".
+#[tactic(auto, unfolding(crate::specs::Relations::overlaps))]
 pub fn overlaps(i: Period, f: Date) -> bool
     ensures { result ≡ overlaps i f }
 {
@@ -97,26 +97,23 @@ pub fn overlaps(i: Period, f: Date) -> bool
 }
 
 // Whether i starts no later than f; with a missing start it does.
+#[tactic(auto, unfolding(crate::specs::Relations::starts_no_later))]
 fn starts_no_later(i: Period, f: Date) -> bool
     ensures { result ≡ starts_no_later i.start f.start }
 {
-    match i.start {
-        None => true,
-        Some(s) => s <= f.start,
-    }
+    i.start.is_none_or(|s| s <= f.start)
 }
 
 // Whether i ends no earlier than f; with a missing end it does.
+#[tactic(auto, unfolding(crate::specs::Relations::ends_no_earlier))]
 fn ends_no_earlier(i: Period, f: Date) -> bool
     ensures { result ≡ ends_no_earlier i.end f.end }
 {
-    match i.end {
-        None => true,
-        Some(e) => f.end <= e,
-    }
+    i.end.is_none_or(|e| f.end <= e)
 }
 
 // co: "F inside I".
+#[tactic(auto, unfolding(crate::specs::Relations::covers))]
 pub fn covers(i: Period, f: Date) -> bool
     ensures { result ≡ covers i f }
 {

@@ -381,9 +381,11 @@ module _ (xs : List ℕ) (at : ℕ) (r : Reached) (a : Reaching xs at r) where
     unfolding found
     reaching_filter i = rw (ends-here ∙ i)
 
-    pub reaching_ends : t ≡ false → Err (record { reason = Reason.NoFilter; place = at }) ≡ found deepest most_tests xs
+    pub reaching_ends : t ≡ false → Err (record { reason = Reason.NoFilter; place = length xs }) ≡ found deepest most_tests xs
     unfolding failure_from
-    reaching_ends i = failed xs (record { reason = Reason.NoFilter; place = at }) (ends-here ∙ i) (sym (a.left ∙ rw (drop_of_length-le xs h)))
+    reaching_ends i =
+        let whole : length xs ≡ at = omega (arith, a.within, h) in
+        rw whole (failed xs (record { reason = Reason.NoFilter; place = at }) (ends-here ∙ i) (sym (a.left ∙ rw (drop_of_length-le xs h))))
 
   module _ (o : Outcome) (e : o ≡ advance xs at r) (h : at < length xs) where
     abbrev stepped : Progress

@@ -83,16 +83,10 @@ pub fn find(s: &[u8]) -> Result<(), Refusal>
         brackets: 1,
         tests: 1,
     };
-    let mut at = 0;
-    while at < s.len() {
+    for at in 0..s.len() {
         match advance(s, at, reached) {
-            Ok(next) => {
-                reached = next;
-                at += 1;
-            }
-            Err(reason) => {
-                return Err(Refusal { reason, place: at });
-            }
+            Ok(next) => reached = next,
+            Err(reason) => return Err(Refusal { reason, place: at }),
         }
     }
     if is_over(reached) {
@@ -100,7 +94,7 @@ pub fn find(s: &[u8]) -> Result<(), Refusal>
     }
     Err(Refusal {
         reason: Reason::NoFilter,
-        place: at,
+        place: s.len(),
     })
 }
 

@@ -1,9 +1,9 @@
 // What a byte does where the text has come to.
-ghost use Rattle.std.specs.Prelude.{◌≡◌, [], ◌∷◌, ◌≤◌, ◌<◌, eqb, length};
+ghost use Rattle.std.specs.Prelude.{◌≡◌, [], ◌∷◌, ◌≤◌, ◌<◌, length};
 ghost use Rattle.base.specs.Ascii.{ascii};
 ghost use Rattle.base.specs.Lists.{member};
 ghost use Rattle.place.specs.Machine.{begins_operator, is_operator};
-ghost use Rattle.place.specs.Code.{on, opened, chosen, closed_round, closed_square, closed, joined, ended, item_step, not_step, name_ends, name_step, member_start, member_step, after_name, letter, quoted, value_step, bare_step, after_space, expect, advance, name_from};
+ghost use Rattle.place.specs.Code.{on, opened, chosen, closed, joined, ended, item_step, not_step, name_ends, name_step, member_start, member_step, after_name, letter, quoted, value_step, bare_step, after_space, expect, advance, name_from};
 
 use crate::{Mode, Reached};
 use base::name::{is_name, is_name_part, is_name_start};
@@ -12,13 +12,6 @@ use syntax::StringStep;
 use syntax::scan::is_space;
 use syntax::test::read_operator;
 use syntax::value::{is_bare, string_step};
-
-// Whether a byte is another.
-fn is(b: u8, x: u8) -> bool
-    ensures { result ≡ eqb b x }
-{
-    b == x
-}
 
 // What a byte comes to: the text may go on with it, or only beyond the limit on nesting (TooDeep), or beyond that on tests (TooMany), or
 // not at all (NoFilter).
@@ -61,22 +54,12 @@ fn chooses(brackets: usize, tests: usize) -> Outcome
     Err(Reason::NoFilter)
 }
 
-// A byte that may close the innermost bracket, which is a round one.
-fn closes_round(b: u8, brackets: usize, tests: usize) -> Outcome
-    ensures { result ≡ closed_round b brackets tests }
+// The one byte that may come.
+fn expect(want: u8, mode: Mode, b: u8, brackets: usize, tests: usize) -> Outcome
+    ensures { result ≡ expect want mode b brackets tests }
 {
-    if is(b, b')') {
-        return live(Mode::AfterItem, brackets / 2, tests);
-    }
-    Err(Reason::NoFilter)
-}
-
-// A square one.
-fn closes_square(b: u8, brackets: usize, tests: usize) -> Outcome
-    ensures { result ≡ closed_square b brackets tests }
-{
-    if is(b, b']') {
-        return live(Mode::AfterSquare, brackets / 2, tests);
+    if b == want {
+        return live(mode, brackets, tests);
     }
     Err(Reason::NoFilter)
 }
@@ -89,9 +72,9 @@ fn closes(b: u8, brackets: usize, tests: usize) -> Outcome
         return Err(Reason::NoFilter);
     }
     if brackets % 2 == 0 {
-        return closes_round(b, brackets, tests);
+        return expect(b')', Mode::AfterItem, b, brackets / 2, tests);
     }
-    closes_square(b, brackets, tests)
+    expect(b']', Mode::AfterSquare, b, brackets / 2, tests)
 }
 
 // A connective begins: one test more is due.
@@ -121,7 +104,7 @@ fn item_byte(b: u8, at: usize, brackets: usize, tests: usize) -> Outcome
     if is_space(b) {
         return live(Mode::Item, brackets, tests);
     }
-    if is(b, b'(') {
+    if b == b'(' {
         return opens(brackets, tests);
     }
     if is_name_start(b) {
@@ -140,7 +123,7 @@ fn not_byte(b: u8, brackets: usize, tests: usize) -> Outcome
         }
         return Err(Reason::TooDeep);
     }
-    if is(b, b'(') {
+    if b == b'(' {
         return opens(brackets, tests);
     }
     Err(Reason::NoFilter)
@@ -153,7 +136,7 @@ fn name_ends(b: u8, brackets: usize, tests: usize) -> Outcome
     if is_space(b) {
         return live(Mode::AfterName, brackets, tests);
     }
-    if is(b, b'[') {
+    if b == b'[' {
         return chooses(brackets, tests);
     }
     Err(Reason::NoFilter)
@@ -268,7 +251,7 @@ fn value_byte(b: u8, brackets: usize, tests: usize) -> Outcome
     if is_space(b) {
         return live(Mode::Value, brackets, tests);
     }
-    if is(b, b'"') {
+    if b == b'"' {
         return live(Mode::Quoted(false), brackets, tests);
     }
     if is_bare(b) {
@@ -305,23 +288,13 @@ fn after_space_byte(b: u8, brackets: usize, tests: usize) -> Outcome
     if is_space(b) {
         return live(Mode::AfterSpace, brackets, tests);
     }
-    if is(b, b'a') {
+    if b == b'a' {
         return joins(Mode::AfterA, brackets, tests);
     }
-    if is(b, b'o') {
+    if b == b'o' {
         return joins(Mode::AfterO, brackets, tests);
     }
     closes(b, brackets, tests)
-}
-
-// The one byte that may come.
-fn expect(want: u8, mode: Mode, b: u8, brackets: usize, tests: usize) -> Outcome
-    ensures { result ≡ expect want mode b brackets tests }
-{
-    if is(b, want) {
-        return live(mode, brackets, tests);
-    }
-    Err(Reason::NoFilter)
 }
 
 // What the byte at a position does.

@@ -6,11 +6,11 @@ use Rattle.place.proofs.step.after_space_byte.Goals as goal
 pub returns-then-is_space : goal.returns-then-is_space
 returns-then-is_space c = search (choices, rules)
 
-pub returns-then-is : goal.returns-then-is
-returns-then-is c = search (choices, rules)
+pub returns-then-b-eq97 : goal.returns-then-b-eq97
+returns-then-b-eq97 c = search (choices, rules)
 
-pub returns-then-is-2 : goal.returns-then-is-2
-returns-then-is-2 c = search (choices, rules)
+pub returns-then-b-eq111 : goal.returns-then-b-eq111
+returns-then-b-eq111 c = search (choices, rules)
 
 pub returns : goal.returns
 returns c = search (choices, rules)

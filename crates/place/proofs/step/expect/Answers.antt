@@ -3,8 +3,8 @@ use Rattle.place.proofs.Choices.{choices}
 use borrow.Author.Rules.{rules}
 use Rattle.place.proofs.step.expect.Goals as goal
 
-pub returns-then-is : goal.returns-then-is
-returns-then-is c = search (choices, rules)
+pub returns-then-b-want : goal.returns-then-b-want
+returns-then-b-want c = search (choices, rules)
 
 pub returns : goal.returns
 returns c = search (choices, rules)

@@ -6,8 +6,8 @@ use Rattle.place.proofs.step.name_ends.Goals as goal
 pub returns-then-is_space : goal.returns-then-is_space
 returns-then-is_space c = search (choices, rules)
 
-pub returns-then-is : goal.returns-then-is
-returns-then-is c = search (choices, rules)
+pub returns-then-b-eq91 : goal.returns-then-b-eq91
+returns-then-b-eq91 c = search (choices, rules)
 
 pub returns : goal.returns
 returns c = search (choices, rules)

@@ -9,8 +9,8 @@ returns-then-brackets-lt256 c = search (choices, rules)
 pub returns-then-is_space : goal.returns-then-is_space
 returns-then-is_space c = search (choices, rules)
 
-pub returns-then-is : goal.returns-then-is
-returns-then-is c = search (choices, rules)
+pub returns-then-b-eq40 : goal.returns-then-b-eq40
+returns-then-b-eq40 c = search (choices, rules)
 
 pub returns : goal.returns
 returns c = search (choices, rules)
