@@ -6,16 +6,17 @@
 -- (`letters_same`).
 -- Assumes nothing.
 use Rattle.std.specs.Prelude.{Option, Some, None}
+use Rattle.std.specs.Int.{w16, from_be_bytes}
 use Prim.Native.Nat.{ℕ, suc, ◌+◌, ◌*◌, ◌-◌, ◌≤◌, ◌<◌}
 use native.Mathlib.Omega.{arith}
 use native.Mathlib.Numerals.{add-one}
 use mathlib.Core.Path.{◌≡◌, refl, sym, ap, subst, ◌∙◌}
 use mathlib.Core.Bool.{Bool, true, false, cond, not, ◌&&◌, and-true, false≢true, true≢false}
 use mathlib.Core.List.{List, [], ◌∷◌, flatten}
-use lib.Dec.{eqb}
+use lib.Dec.{eqb, ltb}
 use lib.ListN.{length, get_or, take, drop, length-drop, length-append, drop_of_length-le}
 use lib.Seq.{drop-cons, take_at}
-use borrow.Author.Tests.{eqb-true, eqb-false, eq-eqb, ne_eqb, not-true}
+use borrow.Author.Tests.{eqb-true, eq-eqb, ltb-true, not-true}
 use Rattle.base.specs.Lists.{equal}
 use Rattle.base.proofs.Below.{passes_at, passes_same}
 use Rattle.base.proofs.Lists.{equal-same}
@@ -117,13 +118,20 @@ unfolding find_operator
 try_step k w h = rw (drop-cons operator_words k [] (rw many_words h), add-one k)
 
 -- two letters are compared as one number
-pub letters_same : (a b c d m n : ℕ) → b < 256 → d < 256 → m ≡ a * 256 + b → n ≡ c * 256 + d → eqb m n ≡ (eqb a c && eqb b d)
-letters_same a b c d m n h k u v = go (eqb a c) (eqb b d) refl refl
-  where
-    go : (p q : Bool) → eqb a c ≡ p → eqb b d ≡ q → eqb m n ≡ (p && q)
-    go true true e f = let i = eqb-true a c e in let j = eqb-true b d f in eq-eqb m n (omega arith)
-    go true false e f = let i = eqb-true a c e in ne_eqb m n (λ (g : m ≡ n). eqb-false b d f (omega arith))
-    go false q e f = ne_eqb m n (λ (g : m ≡ n). eqb-false a c e (omega arith))
+module _ (a b c d m n : ℕ) (h : b < 256) (k : d < 256) (u : m ≡ from_be_bytes w16 (a ∷ b ∷ [])) (v : n ≡ from_be_bytes w16 (c ∷ d ∷ [])) where
+  letters_same : m ≡ n → true ≡ (eqb a c && eqb b d)
+  letters_same e =
+      let i : a ≡ c = omega (arith, u, v) in
+      let j : b ≡ d = omega (arith, u, v) in
+      rw (eq-eqb a c i, eq-eqb b d j)
+
+  letters_other : (m ≡ n → ⊥) → false ≡ (eqb a c && eqb b d)
+  letters_other f = go (eqb a c) (eqb b d) refl refl
+    where
+      go : (p q : Bool) → eqb a c ≡ p → eqb b d ≡ q → false ≡ (p && q)
+      go true true e g = let i = eqb-true a c e in let j = eqb-true b d g in absurd (f (rw (u, v, i, j)))
+      go true false e g = refl
+      go false q e g = refl
 
 -- the letters of the k-th word stand from 2 * k on
 abbrev letters_of : List ℕ → ℕ → List ℕ
@@ -132,6 +140,10 @@ letters_of words k = get_or words (2 * k) 0 ∷ get_or words (2 * k + 1) 0 ∷ [
 each_spelt : (k : ℕ) → k < 19 → equal (letters_of operator_letters k) (get_or operator_words k []) ≡ true
 unfolding operator_letters flatten operator_words equal
 each_spelt k h = passes_at (λ (k : ℕ). equal (letters_of operator_letters k) (get_or operator_words k [])) 19 refl k h
+
+second_byte : (words : List ℕ) → words ≡ operator_letters → (k : ℕ) → k < 19 → get_or words (2 * k + 1) 0 < 256
+unfolding operator_letters flatten operator_words
+second_byte words e k h = rw e (ltb-true _ _ (passes_at (λ (i : ℕ). ltb (get_or operator_letters (2 * i + 1) 0) 256) 19 refl k h))
 
 letters_decide : (words : List ℕ) → words ≡ operator_letters → (k : ℕ) → k < 19 → (a b : ℕ)
     → equal (a ∷ b ∷ []) (get_or operator_words k []) ≡ (eqb a (get_or words (2 * k) 0) && eqb b (get_or words (2 * k + 1) 0))
@@ -162,16 +174,21 @@ module _ (xs : List ℕ) (p : ℕ) where
     abbrev word : List ℕ
     word = get_or xs p 0 ∷ get_or xs (p + 1) 0 ∷ []
 
-    module _ (r : Bool) (e : r ≡ (eqb (get_or xs p 0) (get_or words (2 * k) 0) && eqb (get_or xs (p + 1) 0) (get_or words (2 * k + 1) 0))) (g : k < 19) where
-      tried : equal word (get_or operator_words k []) ≡ r
-      tried = letters_decide words t.letters k g (get_or xs p 0) (get_or xs (p + 1) 0) ∙ sym e
+    module _ (g : k < 19) where
+      abbrev same_bytes : Bool
+      same_bytes = eqb (get_or xs p 0) (get_or words (2 * k) 0) && eqb (get_or xs (p + 1) 0) (get_or words (2 * k + 1) 0)
 
-      pub trying_found : r ≡ true → Some k ≡ operator_at xs p
-      unfolding operator_at
-      trying_found f = rw (two_bytes_lem xs p h, t.left, try_step k word g, tried ∙ f)
+      tried : equal word (get_or operator_words k []) ≡ same_bytes
+      tried = letters_decide words t.letters k g (get_or xs p 0) (get_or xs (p + 1) 0)
 
-      pub trying_next : r ≡ false → Trying words (get_or xs p 0) (get_or xs (p + 1) 0) (k + 1)
-      trying_next f = record { letters = t.letters; few = omega arith; left = t.left ∙ rw (try_step k word g, tried ∙ f) }
+      module _ (m n : ℕ) (hb : get_or xs (p + 1) 0 < 256) (u : m ≡ from_be_bytes w16 word) (v : n ≡ from_be_bytes w16 (get_or words (2 * k) 0 ∷ get_or words (2 * k + 1) 0 ∷ [])) where
+        pub trying_found : m ≡ n → Some k ≡ operator_at xs p
+        unfolding operator_at
+        trying_found e = rw (two_bytes_lem xs p h, t.left, try_step k word g, tried ∙ sym (letters_same _ _ _ _ m n hb (second_byte words t.letters k g) u v e))
+
+        pub trying_next : (m ≡ n → ⊥) → Trying words (get_or xs p 0) (get_or xs (p + 1) 0) (k + 1)
+        trying_next f =
+            record { letters = t.letters; few = omega arith; left = t.left ∙ rw (try_step k word g, tried ∙ sym (letters_other _ _ _ _ m n hb (second_byte words t.letters k g) u v f)) }
 
     pub trying_ends : 19 ≤ k → None ≡ operator_at xs p
     unfolding operator_at find_operator

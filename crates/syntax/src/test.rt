@@ -1,5 +1,5 @@
 // Tests: a name, an operator and a value, with at least one space between.
-ghost use Rattle.std.specs.Prelude.{◌≡◌, ◌&&◌, ◌+◌, ◌*◌, ◌≤◌, eqb, length, drop};
+ghost use Rattle.std.specs.Prelude.{◌≡◌, ◌≤◌, length, drop};
 ghost use Rattle.base.specs.Names.{is_name_part, is_name};
 ghost use Rattle.base.specs.Parts.{part};
 ghost use Rattle.base.specs.Runs.{RunEnd};
@@ -10,22 +10,8 @@ use crate::scan::{name_end, skip};
 use crate::value::read_value;
 use base::name::{is_name_start, is_reserved};
 
-// Two letters as one number.
-fn letters(first: u8, second: u8) -> u64
-    ensures { result ≡ first * 256 + second }
-{
-    u64::from(first) * 256 + u64::from(second)
-}
-
-// Whether two letters are those of a word. They are compared as one number, which takes half the instructions.
-fn same_letters(first: u8, second: u8, one: u8, two: u8) -> bool
-    ensures { result ≡ (eqb first one && eqb second two) }
-{
-    letters(first, second) == letters(one, two)
-}
-
 // The operator at a position. The words stand in one text outside the loop, since a text in the code is copied each time it is
-// come to.
+// come to; two letters are compared as one number, which takes half the instructions.
 pub fn read_operator(s: &[u8], at: usize) -> Option<u8>
     requires { at ≤ length s.now }
     ensures { result ≡ operator_at s.now at }
@@ -35,10 +21,12 @@ pub fn read_operator(s: &[u8], at: usize) -> Option<u8>
     }
     let first = s[at];
     let second = s[at + 1];
+    let letters = u16::from_be_bytes([first, second]);
     let words = b"eqnecoswewgtltgeleapsaebprposssbinnire";
     for k in 0..base::operator::COUNT {
         let i = 2 * k as usize;
-        if same_letters(first, second, words[i], words[i + 1]) {
+        let word = u16::from_be_bytes([words[i], words[i + 1]]);
+        if letters == word {
             return Some(k);
         }
     }

@@ -13,11 +13,15 @@ pub loop-k-init : goal.loop-k-init
 unfolding operator_letters flatten operator_words
 loop-k-init c = trying_starts _ _ _ refl
 
-pub returns-then-same_letters : goal.returns-then-same_letters
-returns-then-same_letters c = search (trying_found, rules)
+pub returns-then-letters-word : goal.returns-then-letters-word
+returns-then-letters-word c =
+    trying_found c.args.s.now c.args.at (search rules) _ c.loop-k.k c.loop-k.invariant (search rules) _ _ (search rules)
+    c.from_be_bytes-letters.ensures c.from_be_bytes-word.ensures c.if-letters-word.true
 
 pub loop-k-preserved : goal.loop-k-preserved
-loop-k-preserved c = search (trying_next, rules)
+loop-k-preserved c =
+    trying_next c.args.s.now c.args.at (search rules) _ c.loop-k.k c.loop-k.invariant (search rules) _ _ (search rules)
+    c.from_be_bytes-letters.ensures c.from_be_bytes-word.ensures c.if-letters-word.false
 
 pub returns : goal.returns
 returns c = search (trying_ends, rules)

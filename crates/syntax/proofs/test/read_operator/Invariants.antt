@@ -1,5 +1,4 @@
 -- `syntax::test::read_operator` meets its contract. The loop's invariant: the words left to try decide. Assumes nothing.
-use Prim.Native.Nat.{◌-◌}
 use Rattle.syntax.proofs.Operators.{Trying}
 use Rattle.syntax.proofs.test.read_operator.Given as goal
 

@@ -1,5 +1,4 @@
 -- `syntax::value::decode` meets its contract. The loop's invariant: what was written and what is left make the whole value. Assumes nothing.
-use Prim.Native.Nat.{◌-◌}
 use mathlib.Core.Path.{◌≡◌}
 use lib.ListN.{length}
 use Rattle.syntax.proofs.Decoding.{Decoding}

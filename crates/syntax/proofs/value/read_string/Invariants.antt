@@ -1,6 +1,4 @@
 -- `syntax::value::read_string` meets its contract. The loop's invariant: what is left decides what is found. Assumes nothing.
-use Prim.Native.Nat.{◌-◌}
-use lib.ListN.{length}
 use Rattle.syntax.proofs.Values.{Reading}
 use Rattle.syntax.proofs.value.read_string.Given as goal
 
