@@ -26,6 +26,7 @@ pub fn is_digit(b: u8) -> bool
 pub fn equal(a: &[u8], b: &[u8]) -> bool
     ensures { result ≡ equal a.now b.now }
 {
+    // a function of its own, since the definitions of names and words ask for `equal`
     a == b
 }
 

@@ -13,6 +13,7 @@ use refusal::{Reason, Refusal};
 use step::advance;
 
 // What the bytes so far end in.
+// No Option or Result: each arm is a state in which the text may go on.
 #[derive(Clone, Copy)]
 pub enum Mode {
     // An item may begin, after spaces.

@@ -261,6 +261,7 @@ fn value_byte(b: u8, brackets: usize, tests: usize) -> Outcome
 }
 
 // The byte in or after a bare word.
+// Not one function with `ends`, though it has its form: other bytes are taken here, and what follows else is `ends` itself.
 fn bare_byte(b: u8, brackets: usize, tests: usize) -> Outcome
     ensures { result ≡ bare_step b brackets tests }
 {

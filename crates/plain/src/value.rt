@@ -45,6 +45,7 @@ fn is_plain(b: u8) -> bool
 }
 
 // The byte that stands after a backslash for one that may not.
+// The other way round than `unescaped` of `syntax`: a table for both would have to be searched from either side, and be no plainer.
 fn escape_of(b: u8) -> u8
     ensures { result ≡ escape_of b }
 {
@@ -109,6 +110,7 @@ fn write_decoded(raw: &[u8], out: &mut [u8]) -> usize
     requires room { Room (plain_value (decoded false raw.now)) out.old }
     ensures { Puts (plain_value (decoded false raw.now)) out.old out.new result }
 {
+    // fixed memory, for the longest value of the longest filter
     let mut value = [0u8; 1024];
     let n = decode(raw, &mut value);
     write_plain(&value[..n], out)

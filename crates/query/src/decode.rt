@@ -55,6 +55,7 @@ pub fn decode(raw: &[u8], out: &mut [u8]) -> Option<usize>
 {
     let mut i = 0;
     let mut n = 0;
+    // no for: a unit is one byte or three
     while i < raw.len() {
         let unit = unit_at(raw, i)?;
         out[n] = unit.byte;

@@ -16,6 +16,7 @@ pub struct DecodedByte {
 }
 
 // What stands at a position of a decoded value, and where the value goes on: a byte, a comma that cuts, a bar that splits.
+// No Option: each of its three arms is a mark that was found.
 #[derive(Clone, Copy)]
 pub enum Mark {
     Byte(u8, usize),
@@ -47,6 +48,7 @@ pub struct Row {
     pub text: usize,
     pub end: usize,
     pub split: usize,
+    // no Option: a row has all its parts, the last of its pair and the others
     pub last: bool,
 }
 
@@ -54,6 +56,7 @@ pub struct Row {
 #[derive(Clone, Copy)]
 pub struct Rows {
     pub count: usize,
+    // fixed memory, for the most alternatives; those beyond are only counted
     pub rows: [Row; 32],
 }
 

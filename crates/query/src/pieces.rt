@@ -49,6 +49,7 @@ pub fn next_alternative(s: &[u8], at: usize, out: &mut [u8]) -> Piece
     let mut i = at;
     let mut n = 0;
     let mut split = None;
+    // no for: a mark is one byte or two
     while i < s.len() {
         match mark_at(s, i) {
             Mark::Byte(b, next) => {

@@ -42,6 +42,7 @@ pub fn keep_pair(
     let mut rows = entry;
     let mut used = start;
     let mut next = Some(0);
+    // no for: where an alternative begins is known once the one before it is written
     while let Some(from) = next {
         let piece = next_alternative(value, from, &mut bytes[used..]);
         let end = used + piece.len;
@@ -91,7 +92,9 @@ pub fn read_query(text: &[u8], bytes: &mut [u8]) -> Result<Rows, Refusal>
     let mut rows = no_rows();
     let mut used = 0;
     let mut at = 0;
+    // fixed memory, for the longest value of the longest search string
     let mut value = [0u8; 1024];
+    // no split: a pair that is none is refused by its place in the text
     loop {
         let end = base::first_from(text, at, b'&');
         let read = read_pair(&text[at..end], &mut bytes[used..], &mut value);

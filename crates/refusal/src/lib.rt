@@ -7,6 +7,7 @@ mod numbers;
 pub use decide::refuse;
 
 // Why an operation refuses, in the order of the numbers of refusal.
+// No arm stands for nothing: what passes is an Ok, and these are its errors.
 #[derive(Clone, Copy)]
 pub enum Reason {
     // 1: the sheet is not 512 bytes.

@@ -6,15 +6,14 @@
 -- the pair at hand is met so far; at the last row of a pair it is no where the pair is not met, and else the next pair begins unmet.
 -- Assumes nothing.
 use Rattle.std.specs.Prelude.{Err, Ok, Result, ⊤, Option, None, Some}
-use Prim.Native.Nat.{ℕ, suc, ◌+◌, ◌-◌, ◌≤◌, ◌<◌}
+use Prim.Native.Nat.{ℕ, ◌+◌, ◌-◌, ◌≤◌, ◌<◌}
 use native.Mathlib.Numerals.{add-one}
-use native.Mathlib.Omega.{arith}
 use mathlib.Core.Path.{◌≡◌, refl, ap, sym, ◌∙◌, subst}
 use mathlib.Core.Bool.{Bool, true, false, cond, not, ◌&&◌, ◌||◌}
-use mathlib.Core.List.{List, [], ◌∷◌, ◌++◌, map}
+use mathlib.Core.List.{List, ◌∷◌, ◌++◌, map}
 use lib.Dec.{eqb}
 use lib.ListN.{length, get_or, take, drop, take-append-drop, drop_of_length-le}
-use lib.Seq.{length-take-le, drop-cons, get_or-take}
+use lib.Seq.{drop-cons}
 use borrow.Author.Tests.{eq-eqb, ne_eqb}
 use Rattle.base.specs.Kinds.{token, bundle_kind}
 use Rattle.base.specs.Lists.{All}
@@ -124,34 +123,26 @@ not_under under x split asked u = rw u
 abbrev no_row : Row
 no_row = record { at = 0; name = 0; until = 0; text = 0; end = 0; split = 0; last = false }
 
+-- the rows that are kept
+abbrev kept : Rows → List Row
+kept rows = take rows.count rows.rows
+
 abbrev row_at : Rows → ℕ → Row
-row_at rows i = get_or rows.rows i no_row
+row_at rows i = get_or (kept rows) i no_row
 
--- the rows from the i-th on
+-- those from the i-th on
 abbrev rows_from : Rows → ℕ → List Row
-rows_from rows i = drop i (take rows.count rows.rows)
+rows_from rows i = drop i (kept rows)
 
-module _ {n : ℕ} {rows : Rows} (w : RowsWithin n rows) where
-  kept_length : length (take rows.count rows.rows) ≡ rows.count
-  kept_length = length-take-le rows.count rows.rows (omega (arith, w.few, w.cells))
+from_next : (rows : Rows) (i : ℕ) → i < length (kept rows) → rows_from rows i ≡ row_at rows i ∷ rows_from rows (i + 1)
+from_next rows i h = rw (add-one i) (drop-cons (kept rows) i no_row h)
 
-  from_next : (i : ℕ) → i < rows.count → rows_from rows i ≡ row_at rows i ∷ rows_from rows (i + 1)
-  from_next i h =
-      let here : get_or (take rows.count rows.rows) i no_row ≡ row_at rows i = get_or-take rows.count rows.rows i no_row h in
-      rw (add-one i) (drop-cons (take rows.count rows.rows) i no_row (omega (arith, kept_length)) ∙ ap (λ (r : Row). r ∷ drop (suc i) (take rows.count rows.rows)) here)
-
-  from_end : (i : ℕ) → rows.count ≤ i → rows_from rows i ≡ []
-  from_end i h = drop_of_length-le (take rows.count rows.rows) {i = i} (omega (arith, kept_length))
-
-  pub row_within : (i : ℕ) → i < rows.count → RowWithin n (row_at rows i)
-  row_within i h =
-      let whole : take rows.count rows.rows ≡ take i (take rows.count rows.rows) ++ (row_at rows i ∷ rows_from rows (i + 1)) =
-      sym (take-append-drop i (take rows.count rows.rows)) ∙ ap (λ (l : List Row). take i (take rows.count rows.rows) ++ l) (from_next i h)
-      in
-      all_head (RowWithin n) (all_right (RowWithin n) (take i (take rows.count rows.rows)) (subst (All (RowWithin n)) whole w.within))
-
-  pub row_few : (i : ℕ) → i < rows.count → i < 32
-  row_few i h = omega (arith, w.few)
+row_within : {n : ℕ} {rows : Rows} → RowsWithin n rows → (i : ℕ) → i < length (kept rows) → RowWithin n (row_at rows i)
+row_within {n} {rows} w i h =
+    let whole : kept rows ≡ take i (kept rows) ++ (row_at rows i ∷ rows_from rows (i + 1)) =
+    sym (take-append-drop i (kept rows)) ∙ ap (λ (l : List Row). take i (kept rows) ++ l) (from_next rows i h)
+    in
+    all_head (RowWithin n) (all_right (RowWithin n) (take i (kept rows)) (subst (All (RowWithin n)) whole w.within))
 
 -- ---- the loop of `first_fault`
 
@@ -164,20 +155,17 @@ unfolding alternatives_in
 facing_starts w = record { within = w; left = refl }
 
 module _ {n : ℕ} {ps : List Parameter} {bytes : List ℕ} {rows : Rows} {i : ℕ} (g : Facing n ps bytes rows i) where
-  pub facing_row : i < rows.count → RowWithin n (row_at rows i)
+  pub facing_row : i < length (kept rows) → RowWithin n (row_at rows i)
   facing_row h = row_within g.within i h
 
-  pub facing_few : i < rows.count → i < 32
-  facing_few h = row_few g.within i h
-
-  module _ (h : i < rows.count) (f : Result ⊤ Refusal) (e : f ≡ alternative_fault ps (alternative_in bytes (row_at rows i))) where
+  module _ (h : i < length (kept rows)) (f : Result ⊤ Refusal) (e : f ≡ alternative_fault ps (alternative_in bytes (row_at rows i))) where
     abbrev later_fault : Result ⊤ Refusal
     later_fault = first_alternative_fault ps (map (alternative_in bytes) (rows_from rows (i + 1)))
 
     split-left : first_alternative_fault ps (alternatives_in bytes rows) ≡ or_else f later_fault
     unfolding first_alternative_fault
     split-left =
-        g.left ∙ ap (λ (l : List Row). first_alternative_fault ps (map (alternative_in bytes) l)) (from_next g.within i h)
+        g.left ∙ ap (λ (l : List Row). first_alternative_fault ps (map (alternative_in bytes) l)) (from_next rows i h)
         ∙ ap (λ (x : Result ⊤ Refusal). or_else x later_fault) (sym e)
 
     pub facing_fault : (r : Refusal) → f ≡ Err r → f ≡ first_alternative_fault ps (alternatives_in bytes rows)
@@ -186,9 +174,9 @@ module _ {n : ℕ} {ps : List Parameter} {bytes : List ℕ} {rows : Rows} {i : �
     pub facing_next : f ≡ (Ok tt) → Facing n ps bytes rows (i + 1)
     facing_next k = record { within = g.within; left = split-left ∙ ap (λ (x : Result ⊤ Refusal). or_else x later_fault) k }
 
-  pub facing_ends : rows.count ≤ i → (Ok tt) ≡ first_alternative_fault ps (alternatives_in bytes rows)
+  pub facing_ends : length (kept rows) ≤ i → (Ok tt) ≡ first_alternative_fault ps (alternatives_in bytes rows)
   unfolding first_alternative_fault
-  facing_ends h = sym (g.left ∙ ap (λ (l : List Row). first_alternative_fault ps (map (alternative_in bytes) l)) (from_end g.within i h))
+  facing_ends h = sym (g.left ∙ ap (λ (l : List Row). first_alternative_fault ps (map (alternative_in bytes) l)) (drop_of_length-le (kept rows) {i = i} h))
 
 -- ---- the loop of `rows_say`
 
@@ -201,20 +189,17 @@ unfolding rows_say
 saying-starts w = record { within = w; left = refl }
 
 module _ {n : ℕ} {says : Alternative → Bool} {bytes : List ℕ} {rows : Rows} {i : ℕ} {met : Bool} (g : Saying n says bytes rows i met) where
-  pub saying-row : i < rows.count → RowWithin n (row_at rows i)
+  pub saying-row : i < length (kept rows) → RowWithin n (row_at rows i)
   saying-row h = row_within g.within i h
 
-  pub saying_few : i < rows.count → i < 32
-  saying_few h = row_few g.within i h
-
-  module _ (h : i < rows.count) (b : Bool) (e : b ≡ (met || says (alternative_in bytes (row_at rows i)))) where
+  module _ (h : i < length (kept rows)) (b : Bool) (e : b ≡ (met || says (alternative_in bytes (row_at rows i)))) where
     abbrev later : Bool → Bool
     later m = kept_says says m (map (kept_in bytes) (rows_from rows (i + 1)))
 
     saying-split : rows_say says bytes rows ≡ cond (row_at rows i).last (b && later false) (later b)
     unfolding kept_says kept_in
     saying-split =
-        g.left ∙ ap (λ (l : List Row). kept_says says met (map (kept_in bytes) l)) (from_next g.within i h)
+        g.left ∙ ap (λ (l : List Row). kept_says says met (map (kept_in bytes) l)) (from_next rows i h)
         ∙ ap (λ (x : Bool). cond (row_at rows i).last (x && later false) (later x)) (sym e)
 
     by_last : (last : Bool) → (last && not b) ≡ false → cond last (b && later false) (later b) ≡ later (not last && b)
@@ -236,6 +221,6 @@ module _ {n : ℕ} {says : Alternative → Bool} {bytes : List ℕ} {rows : Rows
     pub saying-next : (u v : Bool) → u ≡ ((row_at rows i).last && not b) → u ≡ false → v ≡ (not (row_at rows i).last && b) → Saying n says bytes rows (i + 1) v
     saying-next u v k y c = record { within = g.within; left = saying-split ∙ by_last (row_at rows i).last (sym k ∙ y) ∙ ap later (sym c) }
 
-  pub saying-ends : rows.count ≤ i → true ≡ rows_say says bytes rows
+  pub saying-ends : length (kept rows) ≤ i → true ≡ rows_say says bytes rows
   unfolding kept_says
-  saying-ends h = sym (g.left ∙ ap (λ (l : List Row). kept_says says met (map (kept_in bytes) l)) (from_end g.within i h))
+  saying-ends h = sym (g.left ∙ ap (λ (l : List Row). kept_says says met (map (kept_in bytes) l)) (drop_of_length-le (kept rows) {i = i} h))

@@ -77,11 +77,8 @@ pub fn first_fault(sheet: &Sheet<'_>, bytes: &[u8], rows: Rows) -> Result<(), Re
     requires rows_within { RowsWithin (length bytes.now) rows }
     ensures { result ≡ first_alternative_fault (parameters_of sheet.now) (alternatives_in bytes.now rows) }
 {
-    let mut i = 0;
-    while i < rows.count {
-        let row = rows.rows[i];
-        row_fault(sheet, bytes, row)?;
-        i += 1;
+    for row in &rows.rows[..rows.count] {
+        row_fault(sheet, bytes, *row)?;
     }
     Ok(())
 }

@@ -98,16 +98,13 @@ pub fn rows_say(sheet: &Sheet<'_>, card: &Card<'_>, bytes: &[u8], rows: Rows) ->
     requires rows_within { RowsWithin (length bytes.now) rows }
     ensures { result ≡ rows_say (alternative_says (parameters_of sheet.now) (entries_of card.now)) bytes.now rows }
 {
-    let mut i = 0;
     let mut met = false;
-    while i < rows.count {
-        let row = rows.rows[i];
-        let said = row_says(met, sheet, card, bytes, row);
+    for row in &rows.rows[..rows.count] {
+        let said = row_says(met, sheet, card, bytes, *row);
         if is_unmet(row.last, said) {
             return false;
         }
         met = carried(row.last, said);
-        i += 1;
     }
     true
 }

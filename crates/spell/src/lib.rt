@@ -24,6 +24,7 @@ pub struct Spot {
 pub struct Written {
     pub end: usize,
     pub length: usize,
+    // no Option: what was written has an end and a length whether it is a join or not
     pub join: bool,
 }
 
@@ -52,6 +53,7 @@ fn measure(filter: &[u8]) -> usize
     requires filter { IsFilter filter.now }
     ensures { TextLength filter.now result }
 {
+    // fixed memory, for the longest filter
     let mut out = [0u8; 1024];
     write_text(filter, &mut out)
 }

@@ -18,6 +18,7 @@ use test::{is_name_run, read_test};
 pub struct RawValue {
     pub start: usize,
     pub end: usize,
+    // no Option: with an escape or without there is a value, and it has all these parts
     pub escaped: bool,
     pub next: usize,
 }
@@ -33,6 +34,7 @@ pub struct RawTest {
 }
 
 // What a byte does in a string: the string goes on, after a backslash or not; it ends; it is none.
+// No Option or Result: of its three arms two end the string, one well and one not.
 #[derive(Clone, Copy)]
 pub enum StringStep {
     More(bool),
@@ -44,11 +46,13 @@ pub enum StringStep {
 #[derive(Clone, Copy)]
 pub struct StringEnd {
     pub end: usize,
+    // no Option: a string has its end with an escape or without
     pub escaped: bool,
 }
 
 // What an item begins with: a whole test; a bracket, whose filter begins at the position, with not or without; or a name, which
 // ends at the position, and a square bracket.
+// No Option or Result: each of its three arms is a beginning, and where there is none it stands in a None.
 #[derive(Clone, Copy)]
 pub enum Head {
     Test(RawTest),
@@ -57,6 +61,7 @@ pub enum Head {
 }
 
 // 01: a joining word.
+// No flag: of two words neither is the other's lack.
 #[derive(Clone, Copy)]
 pub enum Connective {
     And,

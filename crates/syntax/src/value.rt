@@ -36,6 +36,7 @@ fn is_escape(b: u8) -> bool
 }
 
 // What a backslash and the byte stand for.
+// The other way round than `escape_of` of `plain`: a table for both would have to be searched from either side, and be no plainer.
 fn unescaped(b: u8) -> u8
     ensures { result ≡ unescaped b }
 {

@@ -1,5 +1,4 @@
 -- `search::says::rows_say` meets its contract. The loop's invariant: the rows to come decide, with what the pair at hand has said. Assumes nothing.
-use Prim.Native.Nat.{◌-◌}
 use lib.ListN.{length}
 use Rattle.sheet.specs.Sheet.{parameters_of}
 use Rattle.card.specs.Card.{entries_of}
@@ -7,8 +6,5 @@ use Rattle.search.specs.Meaning.{alternative_says}
 use Rattle.search.proofs.Judging.{Saying}
 use Rattle.search.proofs.says.rows_say.Given as goal
 
-abbrev pub invariant-loop-i : goal.invariant-loop-i
-invariant-loop-i l = Saying (length l.bytes) (alternative_says (parameters_of l.sheet) (entries_of l.card)) l.bytes l.rows l.i l.met
-
-abbrev pub decreases-loop-i : goal.decreases-loop-i
-decreases-loop-i l = l.rows.count - l.i
+abbrev pub invariant-loop-row : goal.invariant-loop-row
+invariant-loop-row l = Saying (length l.bytes) (alternative_says (parameters_of l.sheet) (entries_of l.card)) l.bytes l.fn.rows l.row-index l.met
