@@ -1,48 +1,30 @@
 -- Relations of readable numbers and dates, as the code finds them.
 -- Assumes nothing.
 use Rattle.std.specs.Prelude.{Option, Some, None}
+use Rattle.std.specs.Option.{option_zip}
+use Rattle.number.specs.Value.{Bounded}
 use Prim.Native.Nat.{ℕ}
 use native.Mathlib.Omega.{arith}
-use mathlib.Core.Path.{◌≡◌, refl, sym, ◌∙◌}
-use mathlib.Core.Bool.{Bool, false}
+use mathlib.Core.Path.{◌≡◌, refl, subst}
+use mathlib.Core.Bool.{Bool}
 use mathlib.Core.List.{List}
 use Rattle.number.specs.Reading as numbers
 use Rattle.number.specs.declared.Decimal.{Decimal}
-use Rattle.date.specs.declared.Date.{Date}
 use Rattle.period.specs.Texts as periods
-use Rattle.period.specs.declared.Period.{Period}
-use Rattle.kind.specs.declared.NumberRelation.{NumberRelation}
 use Rattle.kind.specs.declared.DateRelation.{DateRelation}
 use Rattle.number.proofs.Spelling.{number_bounded}
 use Rattle.kind.specs.declared.Relation.{Relation}
 use Rattle.kind.specs.declared.Readings.{Readings}
-use Rattle.kind.specs.Relations.{Kept, numbers_relate, number_readings_relate, dates_relate, date_readings_relate, relates_to, unread, readings_of, relates_read}
+use Rattle.kind.specs.Relations.{Kept, date_readings_relate, relates_to, unread, readings_of, relates_read}
 
--- ---- numbers
+-- ---- a card's number and a filter's, where both were read
 
-module _ (relation : NumberRelation) (i : List ℕ) (v : Option Decimal) (r : Option Decimal) (e : r ≡ numbers.read i) where
-  pub numbers_unreadable : r ≡ None → false ≡ number_readings_relate relation (numbers.read i) v
-  numbers_unreadable h = rw (sym e ∙ h)
-
-  module _ (a : Decimal) (h : r ≡ Some a) where
-    pub value_unreadable : v ≡ None → false ≡ number_readings_relate relation (numbers.read i) v
-    value_unreadable j = rw (sym e ∙ h, j)
-
-    pub numbers-relate : (b : Decimal) (t : Bool) → v ≡ Some b → t ≡ numbers_relate relation a b → t ≡ number_readings_relate relation (numbers.read i) v
-    numbers-relate b t j l = rw (sym e ∙ h, j) l
-
--- ---- dates
-
-module _ (relation : DateRelation) (i : List ℕ) (v : Option Date) (r : Option Period) (e : r ≡ periods.read_span i) where
-  pub dates_unreadable : r ≡ None → false ≡ date_readings_relate relation (periods.read_span i) v
-  dates_unreadable h = rw (sym e ∙ h)
-
-  module _ (a : Period) (h : r ≡ Some a) where
-    pub date_unreadable : v ≡ None → false ≡ date_readings_relate relation (periods.read_span i) v
-    date_unreadable j = rw (sym e ∙ h, j)
-
-    pub dates-relate : (b : Date) (t : Bool) → v ≡ Some b → t ≡ dates_relate relation a b → t ≡ date_readings_relate relation (periods.read_span i) v
-    dates-relate b t j l = rw (sym e ∙ h, j) l
+pub both_bounded : (i : List ℕ) (r v : Option Decimal) (x : Decimal × Decimal) → r ≡ numbers.read i → Kept v → option_zip r v ≡ Some x → Bounded x.0 × Bounded x.1
+both_bounded i None v x e k h = let z : ◌≡◌ {A = ℕ} 0 1 = cc in absurd (omega arith)
+both_bounded i (Some a) None x e k h = let z : ◌≡◌ {A = ℕ} 0 1 = cc in absurd (omega arith)
+both_bounded i (Some a) (Some b) x e k h =
+    let z : (a, b) ≡ x = cc in
+    subst (λ (y : Decimal × Decimal). Bounded y.0 × Bounded y.1) z (number_bounded i (Some a) a e refl, k.bounded b refl)
 
 -- ---- a value that was read already
 

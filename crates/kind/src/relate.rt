@@ -43,13 +43,9 @@ fn number_readings_relate(relation: NumberRelation, text: &[u8], value: Option<D
     requires { Kept value }
     ensures { result ≡ number_readings_relate relation (numbers.read text.now) value }
 {
-    let Some(i) = number::read(text) else {
-        return false;
-    };
-    let Some(f) = value else {
-        return false;
-    };
-    numbers_relate(relation, i, f)
+    number::read(text)
+        .zip(value)
+        .is_some_and(|(i, f)| numbers_relate(relation, i, f))
 }
 
 // A card's period, which a date is too, and a filter's date.
@@ -73,13 +69,9 @@ pub fn dates_relate(relation: DateRelation, i: Period, f: Date) -> bool
 fn date_readings_relate(relation: DateRelation, text: &[u8], value: Option<Date>) -> bool
     ensures { result ≡ date_readings_relate relation (periods.read_span text.now) value }
 {
-    let Some(i) = period::read_span(text) else {
-        return false;
-    };
-    let Some(f) = value else {
-        return false;
-    };
-    dates_relate(relation, i, f)
+    period::read_span(text)
+        .zip(value)
+        .is_some_and(|(i, f)| dates_relate(relation, i, f))
 }
 
 // Of a value whose bytes are compared.
