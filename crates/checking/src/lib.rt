@@ -5,23 +5,16 @@ ghost use Rattle.std.specs.Prelude.{◌≡◌};
 ghost use Rattle.sheet.specs.Sheet.{parameters_of, read_sheet};
 ghost use Rattle.syntax.specs.Grammar.{deepest, most_tests};
 ghost use Rattle.place.specs.Machine.{failure};
-ghost use Rattle.refusal.specs.Answers.{refused, number_of, refusal_answer, counted_answer};
+ghost use Rattle.refusal.specs.Answers.{refusal_answer, counted_answer};
 ghost use Rattle.answer.specs.Passing.{summary_answer};
 ghost use Rattle.answer.specs.Operations.{filter_answer, check_answer};
 
 use answer::accept_sheet;
 use filter::{Summary, check_filter, top};
 use place::find_failure;
-use refusal::{Reason, Refusal};
+use refusal::{Reason, Refusal, refuse};
 use syntax::scan::skip;
 use sheet::Sheet;
-
-// A refusal as check's answer.
-pub fn refuse(reason: Reason, place: usize) -> Result<usize, Refusal>
-    ensures { counted_answer result ≡ refused (number_of reason) place }
-{
-    Err(Refusal { reason, place })
-}
 
 // The answer for a text that is a filter: the first refusal among its tests, or their number.
 pub fn outcome(summary: Summary) -> Result<usize, Refusal>

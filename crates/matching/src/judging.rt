@@ -1,31 +1,24 @@
 // Judge: a card under a sheet and rows that are good for a filter's text.
 ghost use Rattle.std.specs.Prelude.{◌≡◌};
 ghost use Rattle.sheet.specs.Sheet.{parameters_of, read_sheet};
-ghost use Rattle.refusal.specs.Answers.{refused, number_of, matched_answer};
+ghost use Rattle.refusal.specs.Answers.{matched_answer};
 ghost use Rattle.answer.specs.Preparing.{rows_answer, judge_answer};
 
 use answer::accept_sheet;
 use one_card::{answered, judge_once};
-use refusal::{Reason, Refusal};
+use refusal::{Reason, Refusal, refuse};
 use rows::are_good;
 use sheet::Sheet;
-
-// A refusal at 0 as judge's answer.
-fn refuse(reason: Reason) -> Result<bool, Refusal>
-    ensures { matched_answer result ≡ refused (number_of reason) 0 }
-{
-    Err(Refusal { reason, place: 0 })
-}
 
 // The verdict of rows on a card, under a well-formed sheet.
 fn judge_rows(sheet: &Sheet<'_>, filter: &[u8], rows: &[u32], card: &[u8]) -> Result<bool, Refusal>
     ensures { matched_answer result ≡ rows_answer (parameters_of sheet.now) filter.now rows.now card.now }
 {
     if filter.len() == 0 {
-        return refuse(Reason::FilterSize);
+        return refuse(Reason::FilterSize, 0);
     }
     if filter.len() > 1024 {
-        return refuse(Reason::FilterSize);
+        return refuse(Reason::FilterSize, 0);
     }
     let kinds = sheet.kinds();
     let parents = sheet.parents();
@@ -33,7 +26,7 @@ fn judge_rows(sheet: &Sheet<'_>, filter: &[u8], rows: &[u32], card: &[u8]) -> Re
     if sound {
         return answered(judge_once(&kinds, filter, rows, card));
     }
-    refuse(Reason::BadRows)
+    refuse(Reason::BadRows, 0)
 }
 
 // Whether a card matches what rows state on a sheet and a filter's text, or why there is no answer.

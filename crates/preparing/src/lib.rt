@@ -5,24 +5,17 @@ ghost use Rattle.std.specs.Prelude.{◌≡◌, length};
 ghost use Rattle.sheet.specs.Sheet.{parameters_of, read_sheet};
 ghost use Rattle.syntax.specs.Grammar.{deepest, most_tests};
 ghost use Rattle.place.specs.Machine.{failure};
-ghost use Rattle.refusal.specs.Answers.{refused, number_of, refusal_answer, counted_answer};
+ghost use Rattle.refusal.specs.Answers.{refusal_answer, counted_answer};
 ghost use Rattle.answer.specs.Preparing.{FillsText, Fills, Prepares};
 
 use answer::{accept_sheet, write};
 use checking::outcome;
 use filter::top;
 use place::find_failure;
-use refusal::{Reason, Refusal};
+use refusal::{Reason, Refusal, refuse};
 use row_writer::write_filter;
 use syntax::scan::skip;
 use sheet::Sheet;
-
-// A refusal as prepare's answer.
-fn refuse(reason: Reason, place: usize) -> Result<usize, Refusal>
-    ensures { counted_answer result ≡ refused (number_of reason) place }
-{
-    Err(Refusal { reason, place })
-}
 
 // The answer for a text that is no filter.
 fn no_filter(filter: &[u8]) -> Result<usize, Refusal>

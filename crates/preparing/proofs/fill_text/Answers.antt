@@ -1,13 +1,14 @@
 -- `preparing::fill_text` meets its contract. Assumes nothing.
 use borrow.Author.Rules.{rules}
+use Rattle.refusal.proofs.Answers.{refusal_counted}
 use Rattle.preparing.proofs.Filled.{fill_room, fill_empty, fill_long, fill_nothing, fill_within, fill_trails, fill_many, fill_done, fill_fault}
 use Rattle.preparing.proofs.fill_text.Goals as goal
 
 pub returns-then-filter-eq0 : goal.returns-then-filter-eq0
-returns-then-filter-eq0 c = search (fill_empty, rules)
+returns-then-filter-eq0 c = search (fill_empty, refusal_counted, rules)
 
 pub returns-then-filter-gt1024 : goal.returns-then-filter-gt1024
-returns-then-filter-gt1024 c = search (fill_long, rules)
+returns-then-filter-gt1024 c = search (fill_long, refusal_counted, rules)
 
 pub write_filter-requires : goal.write_filter-requires
 write_filter-requires c = search (fill_room, rules)

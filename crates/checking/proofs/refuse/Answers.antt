@@ -1,8 +1,0 @@
--- `checking::refuse` meets its contract: the refusal's number is its reason's. Assumes nothing.
-use mathlib.Core.Path.{refl}
-use Rattle.refusal.specs.Answers.{refusal_answer, counted_answer}
-use Rattle.checking.proofs.refuse.Goals as goal
-
-pub returns : goal.returns
-unfolding refusal_answer counted_answer
-returns c = refl
