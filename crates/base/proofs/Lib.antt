@@ -3,6 +3,7 @@ pub mod Tests
 pub mod Options
 pub mod Below
 pub mod Integers
+pub mod Named
 pub mod Lists
 pub mod All
 pub mod Parts

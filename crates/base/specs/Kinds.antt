@@ -1,6 +1,8 @@
--- The numbers of the kinds, as a sheet writes them.
+-- The kinds and their numbers, as a sheet writes them.
 -- Assumes nothing.
-use Rattle.std.specs.Prelude.{ℕ}
+use Rattle.std.specs.Prelude.{ℕ, ◌≡◌, Option, MatchOption}
+use Rattle.base.specs.declared.kind.Kind.{Kind}
+use Rattle.base.specs.declared.kind.Kind.TheVariants as kinds
 
 abbrev pub string : ℕ
 string = 1
@@ -24,3 +26,17 @@ period = 6
 -- 02: "kind 7 is a bundle"
 abbrev pub bundle_kind : ℕ
 bundle_kind = 7
+
+-- the number of a kind
+abbrev pub kind_number : Kind → ℕ
+kind_number kinds.String = string
+kind_number kinds.Number = number
+kind_number kinds.Date = date
+kind_number kinds.Token = token
+kind_number kinds.Reference = reference
+kind_number kinds.Period = period
+kind_number kinds.Bundle = bundle_kind
+
+-- r is the kind that has the number, or none has it
+abbrev pub KindOf : ℕ → Option Kind → Type 0
+KindOf n r = MatchOption r ((x : Kind) → kind_number x ≡ n → ⊥) (λ x. kind_number x ≡ n)

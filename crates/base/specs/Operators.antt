@@ -1,7 +1,9 @@
 -- The 19 operators (01: operation words), numbered from 0 in the order of the R4 page's table: a number for each, and its word.
 -- Assumes nothing.
-use Rattle.std.specs.Prelude.{ℕ, List, [], ◌∷◌}
+use Rattle.std.specs.Prelude.{ℕ, ◌≡◌, List, [], ◌∷◌, Option, MatchOption}
 use Rattle.base.specs.Ascii.{ascii}
+use Rattle.base.specs.declared.operator.Operator.{Operator}
+use Rattle.base.specs.declared.operator.Operator.TheVariants as operators
 
 -- the word of an operator stands at its number
 unfoldable pub operator_words : List (List ℕ)
@@ -65,3 +67,29 @@ ni = 17
 
 abbrev pub re : ℕ
 re = 18
+
+-- the number of an operator
+abbrev pub operator_number : Operator → ℕ
+operator_number operators.Eq = eq
+operator_number operators.Ne = ne
+operator_number operators.Co = co
+operator_number operators.Sw = sw
+operator_number operators.Ew = ew
+operator_number operators.Gt = gt
+operator_number operators.Lt = lt
+operator_number operators.Ge = ge
+operator_number operators.Le = le
+operator_number operators.Ap = ap
+operator_number operators.Sa = sa
+operator_number operators.Eb = eb
+operator_number operators.Pr = pr
+operator_number operators.Po = po
+operator_number operators.Ss = ss
+operator_number operators.Sb = sb
+operator_number operators.In = «in»
+operator_number operators.Ni = ni
+operator_number operators.Re = re
+
+-- r is the operator that has the number, or none has it
+abbrev pub OperatorOf : ℕ → Option Operator → Type 0
+OperatorOf n r = MatchOption r ((x : Operator) → operator_number x ≡ n → ⊥) (λ x. operator_number x ≡ n)

@@ -1,15 +1,32 @@
-// The numbers of the kinds, as a sheet writes them.
-pub const STRING: u8 = 1;
+// The kinds of parameters, each with the number that a sheet writes for it.
+ghost use Rattle.base.specs.Kinds.{KindOf};
 
-pub const NUMBER: u8 = 2;
+#[derive(Clone, Copy, PartialEq, Eq)]
+pub enum Kind {
+    String = 1,
+    Number = 2,
+    Date = 3,
+    Token = 4,
+    Reference = 5,
+    Period = 6,
+    // A bundle has no texts.
+    Bundle = 7,
+}
 
-pub const DATE: u8 = 3;
-
-pub const TOKEN: u8 = 4;
-
-pub const REFERENCE: u8 = 5;
-
-pub const PERIOD: u8 = 6;
-
-// Kind 7 is a bundle, which has no texts.
-pub const BUNDLE: u8 = 7;
+impl Kind {
+    // The kind that has the number, if one has.
+    pub fn of(number: u8) -> Option<Kind>
+        ensures { KindOf number result }
+    {
+        match number {
+            1 => Some(Kind::String),
+            2 => Some(Kind::Number),
+            3 => Some(Kind::Date),
+            4 => Some(Kind::Token),
+            5 => Some(Kind::Reference),
+            6 => Some(Kind::Period),
+            7 => Some(Kind::Bundle),
+            _ => None,
+        }
+    }
+}

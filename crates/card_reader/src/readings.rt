@@ -3,7 +3,7 @@ ghost use Rattle.base.specs.Kinds.{number, date, period};
 ghost use Rattle.card_reader.specs.Readings.{ReadAs};
 
 use crate::TextReading;
-use base::kind::{DATE, NUMBER, PERIOD};
+use base::kind::Kind;
 
 // As a number.
 fn number_reading(text: &[u8]) -> Option<TextReading>
@@ -33,10 +33,10 @@ fn period_reading(text: &[u8]) -> Option<TextReading>
 pub fn text_reading(kind: u8, text: &[u8]) -> Option<TextReading>
     ensures { ReadAs kind text.now result }
 {
-    match kind {
-        NUMBER => number_reading(text),
-        DATE => date_reading(text),
-        PERIOD => period_reading(text),
+    match Kind::of(kind) {
+        Some(Kind::Number) => number_reading(text),
+        Some(Kind::Date) => date_reading(text),
+        Some(Kind::Period) => period_reading(text),
         _ => kind::card_readable(kind, text).then_some(TextReading::Bytes),
     }
 }

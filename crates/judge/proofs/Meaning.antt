@@ -1,9 +1,8 @@
 -- The fault and the verdict of a test, as the code decides them.
 -- The definitions are nested choices, and there is a law for each way through the code, which rewrites the definition by the tests made on
--- that way. Which operators below 18 are not supported is computed (`low_rule`, `range_rule`). A value with escapes is judged by its
--- decoded bytes (`value-escaped`), and one without by the bytes as they stand in the text (`value-plain`). `says_some` brings every
--- operator into one form, whether some text of a set counts: by it tests are judged. It is by the cases of the meaning, and by induction
--- on the set only where there is no meaning.
+-- that way. A value with escapes is judged by its decoded bytes (`value-escaped`), and one without by the bytes as they stand in the text
+-- (`value-plain`). `says_some` brings every operator into one form, whether some text of a set counts: by it tests are judged. It is by
+-- the cases of the meaning, and by induction on the set only where there is no meaning.
 -- Assumes nothing.
 use Rattle.std.specs.Prelude.{Ok, Result, ⊤, Option, None, Some}
 use Prim.Native.Nat.{ℕ, ◌≤◌, ◌<◌}
@@ -19,6 +18,9 @@ use Rattle.base.specs.Parts.{part}
 use Rattle.base.specs.Below.{passes}
 use Rattle.base.proofs.Below.{passes_at}
 use Rattle.base.specs.Kinds.{bundle_kind}
+use Rattle.base.specs.Operators.{operator_number}
+use Rattle.base.specs.declared.operator.Operator.{Operator}
+use Rattle.base.specs.declared.operator.Operator.TheVariants as operators
 use Rattle.sheet.specs.Sheet.{Parameter}
 use Rattle.sheet.specs.Find.{find}
 use Rattle.sheet.specs.declared.Found.{Found}
@@ -37,37 +39,12 @@ use Rattle.refusal.specs.declared.Reason.{Reason}
 use Rattle.refusal.specs.Decisions.{refuse}
 use Rattle.refusal.specs.declared.Refusal.{Refusal}
 
--- ---- operators that are not supported
+-- ---- a number that is no operator's
 
--- below 14 only ap is among them, and from 14 to 17 all are
-low_rule : passes (λ (j : ℕ). eqb j 9 || not (unsupported j)) 14 ≡ true
+pub no_operator : (k : ℕ) → ((x : Operator) → operator_number x ≡ k → ⊥) → false ≡ unsupported k
 unfolding unsupported member
-low_rule = refl
-
-range_rule : passes (λ (j : ℕ). not (leb 14 j) || unsupported j) 18 ≡ true
-unfolding unsupported member
-range_rule = refl
-
-module _ (k : ℕ) where
-  pub unsupported-ap : k ≡ 9 → true ≡ unsupported k
-  unfolding unsupported member
-  unsupported-ap e = rw e
-
-  pub unsupported_low : (k ≡ 9 → ⊥) → k < 14 → false ≡ unsupported k
-  unsupported_low n h =
-      let t = passes_at (λ (j : ℕ). eqb j 9 || not (unsupported j)) 14 low_rule k h in
-      sym (not-true (unsupported k) (rw (ne_eqb k 9 n) at t))
-
-  pub unsupported_range : 14 ≤ k → k < 18 → true ≡ unsupported k
-  unsupported_range l h =
-      let t = passes_at (λ (j : ℕ). not (leb 14 j) || unsupported j) 18 range_rule k h in
-      sym (rw (le-leb 14 k l) at t)
-
-  pub unsupported_high : 18 ≤ k → false ≡ unsupported k
-  unfolding unsupported member
-  unsupported_high h =
-      let far : (j : ℕ) → j < 18 → k ≡ j → ⊥ = λ j i e. omega arith in
-      rw (ne_eqb k 9 (far 9 (omega arith)), ne_eqb k 14 (far 14 (omega arith)), ne_eqb k 15 (far 15 (omega arith)), ne_eqb k 16 (far 16 (omega arith)), ne_eqb k 17 (far 17 (omega arith)))
+no_operator k n =
+    rw (ne_eqb k 9 (λ e. n operators.Ap (sym e)), ne_eqb k 14 (λ e. n operators.Ss (sym e)), ne_eqb k 15 (λ e. n operators.Sb (sym e)), ne_eqb k 16 (λ e. n operators.In (sym e)), ne_eqb k 17 (λ e. n operators.Ni (sym e)))
 
 -- ---- meanings
 

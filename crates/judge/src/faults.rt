@@ -1,23 +1,36 @@
 // The fault of a test on a sheet, whatever the card.
 ghost use Rattle.std.specs.Prelude.{◌≡◌, cond, eqb};
 ghost use Rattle.base.specs.Kinds.{bundle_kind};
+ghost use Rattle.base.specs.Operators.{operator_number};
 ghost use Rattle.kind.specs.Table.{has_meaning};
 ghost use Rattle.refusal.specs.Decisions.{refuse};
 ghost use Rattle.judge.specs.Faults.{unsupported, kind_fault, fault_at};
 
-use base::kind::BUNDLE;
-use base::operator::{AP, IN, NI, SB, SS};
+use base::kind::Kind;
+use base::operator::Operator;
 use kind::Meaning;
 use refusal::{Reason, Refusal, refuse};
 use sheet::Found;
 
 // "word is ap, ss, sb, in or ni".
+#[tactic(auto, unfolding(crate::specs::Faults::unsupported, base::specs::Lists::member))]
+fn lacks_support(operator: Operator) -> bool
+    ensures { result ≡ unsupported (operator_number operator) }
+{
+    matches!(
+        operator,
+        Operator::Ap | Operator::Ss | Operator::Sb | Operator::In | Operator::Ni
+    )
+}
+
+// The same of the operator with a number.
+#[tactic(auto, using(crate::proofs::Meaning::no_operator))]
 fn unsupported(operator: u8) -> bool
     ensures { result ≡ unsupported operator }
 {
-    match operator {
-        AP | SS | SB | IN | NI => true,
-        _ => false,
+    match Operator::of(operator) {
+        Some(operator) => lacks_support(operator),
+        None => false,
     }
 }
 
@@ -53,7 +66,7 @@ pub fn kind_fault(operator: u8, kind: u8, value: &[u8], place: usize) -> Result<
 fn parameter_fault(operator: u8, kind: u8, value: &[u8], place: usize) -> Result<(), Refusal>
     ensures { result ≡ cond (eqb kind bundle_kind) (refuse Reason.BareBundle place) (kind_fault operator kind value.now place) }
 {
-    if kind == BUNDLE {
+    if kind == Kind::Bundle as u8 {
         return refuse(Reason::BareBundle, place);
     }
     kind_fault(operator, kind, value, place)

@@ -71,7 +71,13 @@ pub fn test_says(
         let n = decode(&filter[value.start..value.end], &mut bytes);
         return says_at(found, card, chosen, test.operator, &bytes[..n]);
     }
-    says_at(found, card, chosen, test.operator, &filter[value.start..value.end])
+    says_at(
+        found,
+        card,
+        chosen,
+        test.operator,
+        &filter[value.start..value.end],
+    )
 }
 
 // `text_counts` with the value of a test of the filter.

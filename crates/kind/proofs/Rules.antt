@@ -62,7 +62,7 @@ not-empty t = (
 )
 
 -- what holds of each kind of the table, and of a number that is not in it, holds of every number
-by_kind : {A : Type 0} (P : ℕ → A → Type 0) (other : A) (f : Kind → A) → ((k : ℕ) → P k other) → (xs : List Kind) → All (λ (x : Kind). P x.number (f x)) xs → (k : ℕ) → P k (of_kind other f xs k)
+pub by_kind : {A : Type 0} (P : ℕ → A → Type 0) (other : A) (f : Kind → A) → ((k : ℕ) → P k other) → (xs : List Kind) → All (λ (x : Kind). P x.number (f x)) xs → (k : ℕ) → P k (of_kind other f xs k)
 unfolding of_kind
 by_kind P other f rest [] all_empty k = rest k
 by_kind P other f rest (x ∷ xs) (all_cons h all) k =

@@ -1,79 +1,94 @@
--- The rows of the table, as the code decides them: what is left over has no meaning.
+-- The decision, as the code makes it: over the operator and the kind that the numbers name, and where they name none.
 -- Assumes nothing.
 use Prim.Native.Nat.{ℕ}
-use mathlib.Core.Path.{◌≡◌, refl}
+use mathlib.Core.Path.{◌≡◌, refl, sym, ap, ◌∙◌}
 use mathlib.Core.Bool.{Bool, true, false, cond}
-use borrow.Author.Tests.{eq-eqb, ne_eqb}
+use mathlib.Core.List.{List, [], ◌∷◌}
 use lib.Dec.{eqb}
-use Rattle.base.specs.Operators.{eq, ne, co, sw, ew, gt, lt, ge, le, sa, eb, pr, po, re}
-use Rattle.base.specs.Kinds.{string, number, date, token, reference, period}
-use Rattle.kind.specs.Table.{string_row, number_row, date_row, token_row, reference_row, kinds, of_kind, row, relation_in, row_meaning, meaning_of}
+use borrow.Author.Tests.{eq-eqb, ne_eqb}
+use Rattle.std.specs.Prelude.{None}
+use Rattle.base.specs.Kinds.{kind_number, string, number, date, token, reference, period}
+use Rattle.base.specs.Lists.{All, all_empty, all_cons}
+use Rattle.base.specs.Operators.{pr, ne, operator_number}
+use Rattle.base.specs.declared.kind.Kind.TheVariants as named
+use Rattle.base.specs.declared.kind.Kind.{Kind as Named}
+use Rattle.base.specs.declared.operator.Operator.{Operator}
+use Rattle.base.specs.declared.operator.Operator.TheVariants as operators
+use Rattle.kind.specs.Table.{RowEntry, string_row, number_row, date_row, token_row, reference_row, Kind, kinds, of_kind, row, relation_in, row_meaning, meaning_of}
 use Rattle.kind.specs.declared.Meaning.{Meaning}
 use Rattle.kind.specs.declared.Meaning.TheVariants.{Present, Nothing}
+use Rattle.kind.proofs.Rules.{by_kind}
 
-either_way : (b : Bool) (m : Meaning) → m ≡ cond b m m
-either_way true m = refl
-either_way false m = refl
+-- ---- a number that is no kind's
 
-pub string_rest : (k : ℕ) → (k ≡ eq → ⊥) → (k ≡ ne → ⊥) → (k ≡ co → ⊥) → (k ≡ sw → ⊥) → (k ≡ ew → ⊥) → Nothing ≡ row_meaning string_row k
-unfolding row_meaning relation_in string_row
-string_rest k neq nne nco nsw new =
-    rw (ne_eqb k eq neq, ne_eqb k ne nne, ne_eqb k co nco, ne_eqb k sw nsw, ne_eqb k ew new)
+module _ (kind : ℕ) (n : (x : Named) → kind_number x ≡ kind → ⊥) where
+  -- it is in no column of the table
+  pub no_column : {A : Type 0} (other : A) (f : Kind → A) → of_kind other f kinds kind ≡ other
+  unfolding of_kind kinds
+  no_column other f =
+      rw (
+        ne_eqb kind string (λ e. n named.String (sym e)),
+        ne_eqb kind number (λ e. n named.Number (sym e)),
+        ne_eqb kind date (λ e. n named.Date (sym e)),
+        ne_eqb kind token (λ e. n named.Token (sym e)),
+        ne_eqb kind reference (λ e. n named.Reference (sym e)),
+        ne_eqb kind period (λ e. n named.Period (sym e)),
+      )
 
-pub number_rest : (k : ℕ) → (k ≡ eq → ⊥) → (k ≡ ne → ⊥) → (k ≡ co → ⊥) → (k ≡ gt → ⊥) → (k ≡ lt → ⊥) → (k ≡ ge → ⊥) → (k ≡ le → ⊥) → Nothing ≡ row_meaning number_row k
-unfolding row_meaning relation_in number_row
-number_rest k neq nne nco ngt nlt nge nle =
-    rw (ne_eqb k eq neq, ne_eqb k ne nne, ne_eqb k co nco, ne_eqb k gt ngt, ne_eqb k lt nlt, ne_eqb k ge nge, ne_eqb k le nle)
+-- ---- a number that is no operator's
 
-pub date_rest : (k : ℕ) → (k ≡ eq → ⊥) → (k ≡ ne → ⊥) → (k ≡ co → ⊥) → (k ≡ gt → ⊥) → (k ≡ lt → ⊥) → (k ≡ ge → ⊥) → (k ≡ le → ⊥) → (k ≡ sa → ⊥) → (k ≡ eb → ⊥) → (k ≡ po → ⊥) → Nothing ≡ row_meaning date_row k
-unfolding row_meaning relation_in date_row
-date_rest k neq nne nco ngt nlt nge nle nsa neb npo =
-    rw (ne_eqb k eq neq, ne_eqb k ne nne, ne_eqb k co nco, ne_eqb k gt ngt, ne_eqb k lt nlt, ne_eqb k ge nge, ne_eqb k le nle, ne_eqb k sa nsa, ne_eqb k eb neb, ne_eqb k po npo)
+-- an operator of a row has a name
+abbrev HasName : RowEntry → Type 0
+HasName u = (x : Operator) × (operator_number x ≡ u.operator)
 
-pub token_rest : (k : ℕ) → (k ≡ eq → ⊥) → (k ≡ ne → ⊥) → Nothing ≡ row_meaning token_row k
-unfolding row_meaning relation_in token_row
-token_rest k neq nne =
-    rw (ne_eqb k eq neq, ne_eqb k ne nne)
+dates_named : All HasName date_row
+unfolding date_row
+dates_named =
+    all_cons (operators.Eq, refl) (all_cons (operators.Gt, refl) (all_cons (operators.Lt, refl) (all_cons (operators.Ge, refl) (all_cons (operators.Le, refl)
+    (all_cons (operators.Sa, refl) (all_cons (operators.Eb, refl) (all_cons (operators.Po, refl) (all_cons (operators.Co, refl) all_empty))))))))
 
-pub reference_rest : (k : ℕ) → (k ≡ re → ⊥) → Nothing ≡ row_meaning reference_row k
-unfolding row_meaning relation_in reference_row
-reference_rest k nre =
-    rw (ne_eqb k re nre) (either_way (eqb k ne) Nothing)
+row_named : (kind : ℕ) → All HasName (row kind)
+unfolding row kinds string_row number_row token_row reference_row
+row_named =
+    by_kind (λ k us. All HasName us) [] (λ x. x.operators) (λ k. all_empty) kinds
+    (all_cons (all_cons (operators.Eq, refl) (all_cons (operators.Co, refl) (all_cons (operators.Sw, refl) (all_cons (operators.Ew, refl) all_empty))))
+    (all_cons (all_cons (operators.Eq, refl) (all_cons (operators.Gt, refl) (all_cons (operators.Lt, refl) (all_cons (operators.Ge, refl) (all_cons (operators.Le, refl) (all_cons (operators.Co, refl) all_empty))))))
+    (all_cons dates_named
+    (all_cons (all_cons (operators.Eq, refl) all_empty)
+    (all_cons (all_cons (operators.Re, refl) all_empty)
+    (all_cons dates_named all_empty))))))
+
+module _ (k : ℕ) (n : (x : Operator) → operator_number x ≡ k → ⊥) where
+  not_in : (us : List RowEntry) → All HasName us → relation_in us k ≡ None
+  unfolding relation_in
+  not_in [] all_empty = refl
+  not_in (u ∷ us) (all_cons h all) = rw (ne_eqb k u.operator (λ e. n h.0 (h.1 ∙ sym e))) (not_in us all)
+
+  pub no_operator : (kind : ℕ) → Nothing ≡ meaning_of k kind
+  unfolding meaning_of row_meaning
+  no_operator kind = rw (ne_eqb k pr (λ e. n operators.Pr (sym e)), ne_eqb k ne (λ e. n operators.Ne (sym e)), not_in (row kind) (row_named kind))
 
 -- ---- the decision
+
+-- what has no row has no operators
+pub no_row : (k : ℕ) → Nothing ≡ row_meaning [] k
+unfolding row_meaning relation_in
+no_row k = either_way (eqb k ne) Nothing
+  where
+    either_way : (b : Bool) (m : Meaning) → m ≡ cond b m m
+    either_way true m = refl
+    either_way false m = refl
 
 module _ (k kind : ℕ) where
   pub present : k ≡ pr → Present ≡ meaning_of k kind
   unfolding meaning_of
   present e = rw (eq-eqb k pr e)
 
-  module _ (n : k ≡ pr → ⊥) (m : Meaning) where
-    pub of_string : kind ≡ string → m ≡ row_meaning string_row k → m ≡ meaning_of k kind
-    unfolding meaning_of row of_kind kinds
-    of_string e h = rw (ne_eqb k pr n, e) h
+  module _ (n : k ≡ pr → ⊥) where
+    pub of_row : (o i : ℕ) (m : Meaning) → m ≡ row_meaning (row i) o → o ≡ k → i ≡ kind → m ≡ meaning_of k kind
+    unfolding meaning_of
+    of_row o i m h e f = rw (ne_eqb k pr n, sym e, sym f) h
 
-    pub of_number : kind ≡ number → m ≡ row_meaning number_row k → m ≡ meaning_of k kind
-    unfolding meaning_of row of_kind kinds
-    of_number e h = rw (ne_eqb k pr n, e) h
-
-    pub of_date : kind ≡ date → m ≡ row_meaning date_row k → m ≡ meaning_of k kind
-    unfolding meaning_of row of_kind kinds
-    of_date e h = rw (ne_eqb k pr n, e) h
-
-    pub of_token : kind ≡ token → m ≡ row_meaning token_row k → m ≡ meaning_of k kind
-    unfolding meaning_of row of_kind kinds
-    of_token e h = rw (ne_eqb k pr n, e) h
-
-    pub of_reference : kind ≡ reference → m ≡ row_meaning reference_row k → m ≡ meaning_of k kind
-    unfolding meaning_of row of_kind kinds
-    of_reference e h = rw (ne_eqb k pr n, e) h
-
-    pub of_period : kind ≡ period → m ≡ row_meaning date_row k → m ≡ meaning_of k kind
-    unfolding meaning_of row of_kind kinds
-    of_period e h = rw (ne_eqb k pr n, e) h
-
-  pub of_none : (k ≡ pr → ⊥) → (kind ≡ string → ⊥) → (kind ≡ number → ⊥) → (kind ≡ date → ⊥) → (kind ≡ token → ⊥) → (kind ≡ reference → ⊥) → (kind ≡ period → ⊥) → Nothing ≡ meaning_of k kind
-  unfolding meaning_of row of_kind kinds row_meaning relation_in
-  of_none n a b c d e f =
-      rw (ne_eqb k pr n, ne_eqb kind string a, ne_eqb kind number b, ne_eqb kind date c, ne_eqb kind token d, ne_eqb kind reference e, ne_eqb kind period f)
-      (either_way (eqb k ne) Nothing)
+    pub no_kind : ((y : Named) → kind_number y ≡ kind → ⊥) → Nothing ≡ meaning_of k kind
+    unfolding meaning_of row
+    no_kind h = rw (ne_eqb k pr n, no_column kind h [] (λ (x : Kind). x.operators)) (no_row k)

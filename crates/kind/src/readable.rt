@@ -1,39 +1,52 @@
 // Readable texts by kind, on a card and in a filter.
 ghost use Rattle.std.specs.Prelude.{◌≡◌};
+ghost use Rattle.base.specs.Kinds.{kind_number};
 ghost use Rattle.kind.specs.Readable.{card_readable, filter_readable, is_true, is_false, value_readable};
 
-use base::kind::{DATE, NUMBER, PERIOD, REFERENCE, STRING, TOKEN};
-use base::operator::PR;
+use base::kind::Kind;
+use base::operator::Operator;
 
-// Whether a text is readable as its kind on a card.
-pub fn card_readable(kind: u8, text: &[u8]) -> bool
-    ensures { result ≡ card_readable kind text.now }
+// Whether a text is readable as a kind on a card.
+#[tactic(auto, unfolding(crate::specs::Readable::card_readable, crate::specs::Table::of_kind, crate::specs::Table::kinds))]
+fn reads_on_card(kind: Kind, text: &[u8]) -> bool
+    ensures { result ≡ card_readable (kind_number kind) text.now }
 {
     match kind {
-        STRING => true,
-        NUMBER => number::readable(text),
-        DATE => date::readable(text),
-        TOKEN => token::card_readable(text),
-        REFERENCE => text.len() != 0,
-        PERIOD => period::readable(text),
-        _ => false,
+        Kind::String => true,
+        Kind::Number => number::readable(text),
+        Kind::Date => date::readable(text),
+        Kind::Token => token::card_readable(text),
+        Kind::Reference => text.len() != 0,
+        Kind::Period => period::readable(text),
+        Kind::Bundle => false,
     }
 }
 
 // Whether a filter's value is readable as a kind: only tokens and periods differ from a card's.
-fn filter_readable(kind: u8, value: &[u8]) -> bool
-    ensures { result ≡ filter_readable kind value.now }
+#[tactic(auto, unfolding(crate::specs::Readable::card_readable, crate::specs::Readable::filter_readable, crate::specs::Table::of_kind, crate::specs::Table::kinds))]
+fn reads_in_filter(kind: Kind, value: &[u8]) -> bool
+    ensures { result ≡ filter_readable (kind_number kind) value.now }
 {
-    if kind == TOKEN {
-        return token::filter_readable(value);
+    match kind {
+        Kind::Token => token::filter_readable(value),
+        Kind::Period => date::readable(value),
+        _ => reads_on_card(kind, value),
     }
-    if kind == PERIOD {
-        return date::readable(value);
+}
+
+// Whether a text is readable as the kind with a number on a card.
+#[tactic(auto, using(crate::proofs::Texts::no_kind_on_card))]
+pub fn card_readable(kind: u8, text: &[u8]) -> bool
+    ensures { result ≡ card_readable kind text.now }
+{
+    match Kind::of(kind) {
+        Some(kind) => reads_on_card(kind, text),
+        None => false,
     }
-    card_readable(kind, value)
 }
 
 // Whether the value of pr is true, case ignored.
+#[tactic(auto, unfolding(crate::specs::Readable::is_true))]
 pub fn is_true(value: &[u8]) -> bool
     ensures { result ≡ is_true value.now }
 {
@@ -41,6 +54,7 @@ pub fn is_true(value: &[u8]) -> bool
 }
 
 // Whether it is false, case ignored.
+#[tactic(auto, unfolding(crate::specs::Readable::is_false))]
 fn is_false(value: &[u8]) -> bool
     ensures { result ≡ is_false value.now }
 {
@@ -48,11 +62,15 @@ fn is_false(value: &[u8]) -> bool
 }
 
 // Whether a filter's value is readable under an operator and a kind: for pr, whether it is true or false.
+#[tactic(auto, using(crate::proofs::Texts::present_true, crate::proofs::Texts::present_false, crate::proofs::Texts::value_of_kind, crate::proofs::Texts::no_kind_in_filter))]
 pub fn value_readable(operator: u8, kind: u8, value: &[u8]) -> bool
     ensures { result ≡ value_readable operator kind value.now }
 {
-    if operator == PR {
+    if operator == Operator::Pr as u8 {
         return is_true(value) || is_false(value);
     }
-    filter_readable(kind, value)
+    match Kind::of(kind) {
+        Some(kind) => reads_in_filter(kind, value),
+        None => false,
+    }
 }

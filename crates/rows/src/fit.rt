@@ -7,7 +7,8 @@ ghost use Rattle.rows.specs.Shapes.{kind_fits, value_in, probe_fits, member_by};
 
 use crate::cell::row_of;
 use crate::{Probe, Row};
-use base::kind::BUNDLE;
+use base::kind::Kind;
+use base::operator::Operator;
 use judge::has_meaning;
 use syntax::RawValue;
 use syntax::value::{decode, read_value};
@@ -19,10 +20,10 @@ fn kind_fits(operator: u8, kind: u8) -> bool
     if kind == 0 {
         return false;
     }
-    if kind == BUNDLE {
+    if kind == Kind::Bundle as u8 {
         return false;
     }
-    if operator >= 19 {
+    if operator >= Operator::COUNT {
         return false;
     }
     has_meaning(operator, kind)

@@ -1,34 +1,53 @@
 // What a text asks under a kind: "numbers, dates and periods take a prefix", none meaning eq; "a string asks for a start,
 // a token for 01's four forms, a reference for sameness".
-ghost use Rattle.std.specs.Prelude.{◌≡◌};
+ghost use Rattle.std.specs.Prelude.{ℕ, ◌≡◌, List};
+ghost use Rattle.base.specs.Kinds.{kind_number};
 ghost use Rattle.base.specs.Lists.{member};
-ghost use Rattle.search.specs.Asking.{takes_prefix, prefixes, prefixed, asked_of, PrefixOf};
+ghost use Rattle.base.specs.Operators.{operator_number};
+ghost use Rattle.search.specs.Asking.{prefixes, prefixed, asked_of, PrefixOf};
 
 use crate::Prefixed;
-use base::kind::{DATE, NUMBER, PERIOD, STRING, TOKEN};
-use base::operator::{EB, EQ, GE, GT, LE, LT, NE, RE, SA, SW};
+use base::kind::Kind;
+use base::operator::Operator;
 use syntax::test::read_operator;
 
-// Whether texts of the kind take a prefix.
-fn takes_prefix(kind: u8) -> bool
-    ensures { result ≡ takes_prefix kind }
+// Whether the operator's word is a prefix: eq, ne, gt, lt, ge, le, sa, eb.
+#[tactic(auto, unfolding(base::specs::Lists::member))]
+fn has_prefix_word(operator: Operator) -> bool
+    ensures { result ≡ member (operator_number operator) prefixes }
 {
-    if kind == NUMBER {
-        return true;
-    }
-    if kind == DATE {
-        return true;
-    }
-    kind == PERIOD
+    matches!(
+        operator,
+        Operator::Eq
+            | Operator::Ne
+            | Operator::Gt
+            | Operator::Lt
+            | Operator::Ge
+            | Operator::Le
+            | Operator::Sa
+            | Operator::Eb
+    )
 }
 
-// Whether the operator's word is a prefix: eq, ne, gt, lt, ge, le, sa, eb.
+// The same of the operator with a number.
+#[tactic(auto, using(crate::proofs::Prefixes::prefix_none))]
 fn is_prefix(operator: u8) -> bool
     ensures { result ≡ member operator prefixes }
 {
-    match operator {
-        EQ | NE | GT | LT | GE | LE | SA | EB => true,
-        _ => false,
+    match Operator::of(operator) {
+        Some(operator) => has_prefix_word(operator),
+        None => false,
+    }
+}
+
+// What a text asks that has no prefix: it is the value, whole.
+#[tactic(auto, using(crate::proofs::Prefixes::whole_text))]
+fn whole(operator: Operator) -> Prefixed
+    ensures { (text : List ℕ) → PrefixOf (record { operator = operator_number operator; value = text }) text result }
+{
+    Prefixed {
+        operator: operator as u8,
+        skip: 0,
     }
 }
 
@@ -42,33 +61,32 @@ fn prefix_asked(text: &[u8]) -> Prefixed
             skip: 2,
         },
         _ => Prefixed {
-            operator: EQ,
+            operator: Operator::Eq as u8,
             skip: 0,
         },
     }
 }
 
 // What a text asks under a kind.
+#[tactic(auto, unfolding(crate::specs::Asking::asked_of, crate::specs::Asking::takes_prefix))]
+fn asked_under(kind: Kind, text: &[u8]) -> Prefixed
+    ensures { PrefixOf (asked_of (kind_number kind) text.now) text.now result }
+{
+    match kind {
+        Kind::Number | Kind::Date | Kind::Period => prefix_asked(text),
+        Kind::String => whole(Operator::Sw),
+        Kind::Token => whole(Operator::Eq),
+        Kind::Reference | Kind::Bundle => whole(Operator::Re),
+    }
+}
+
+// What a text asks under the kind with a number, and sameness where no kind has it.
+#[tactic(auto, using(crate::proofs::Prefixes::asked_of_none))]
 pub fn asked_of(kind: u8, text: &[u8]) -> Prefixed
     ensures { PrefixOf (asked_of kind text.now) text.now result }
 {
-    if takes_prefix(kind) {
-        return prefix_asked(text);
-    }
-    if kind == STRING {
-        return Prefixed {
-            operator: SW,
-            skip: 0,
-        };
-    }
-    if kind == TOKEN {
-        return Prefixed {
-            operator: EQ,
-            skip: 0,
-        };
-    }
-    Prefixed {
-        operator: RE,
-        skip: 0,
+    match Kind::of(kind) {
+        Some(kind) => asked_under(kind, text),
+        None => whole(Operator::Re),
     }
 }

@@ -8,7 +8,7 @@ ghost use Rattle.search.specs.Meaning.{text_fault, fault_at, alternative_fault, 
 ghost use Rattle.query.specs.Rows.{alternative_in, alternatives_in, RowWithin, RowsWithin};
 
 use crate::asked::asked_of;
-use base::kind::{BUNDLE, TOKEN};
+use base::kind::Kind;
 use query::{Row, Rows};
 use refusal::{Reason, Refusal, refuse};
 use sheet::{Found, Sheet};
@@ -17,7 +17,7 @@ use sheet::{Found, Sheet};
 fn text_fault(kind: u8, split: usize, text: &[u8], place: usize) -> Result<(), Refusal>
     ensures { result ≡ text_fault kind split text.now place }
 {
-    if kind == TOKEN {
+    if kind == Kind::Token as u8 {
         if token::readable_at(text, split) {
             return Ok(());
         }
@@ -32,7 +32,7 @@ fn text_fault(kind: u8, split: usize, text: &[u8], place: usize) -> Result<(), R
 fn parameter_fault(kind: u8, split: usize, text: &[u8], place: usize) -> Result<(), Refusal>
     ensures { result ≡ cond (eqb kind bundle_kind) (refuse Reason.UnknownName place) (text_fault kind split text.now place) }
 {
-    if kind == BUNDLE {
+    if kind == Kind::Bundle as u8 {
         return refuse(Reason::UnknownName, place);
     }
     text_fault(kind, split, text, place)

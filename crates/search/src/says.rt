@@ -10,7 +10,7 @@ ghost use Rattle.search.specs.Meaning.{text_says, says_at, alternative_says};
 ghost use Rattle.query.specs.Rows.{alternative_in, rows_say, RowWithin, RowsWithin};
 
 use crate::asked::asked_of;
-use base::kind::TOKEN;
+use base::kind::Kind;
 use card::Card;
 use judge::Chosen;
 use query::{Row, Rows};
@@ -27,7 +27,7 @@ fn some_token(card: &Card<'_>, index: u8, split: usize, asked: &[u8]) -> bool
 fn text_says(card: &Card<'_>, index: u8, kind: u8, split: usize, text: &[u8]) -> bool
     ensures { result ≡ text_says kind split text.now (values_at index (entries_of card.now)) }
 {
-    if kind == TOKEN {
+    if kind == Kind::Token as u8 {
         return some_token(card, index, split, text);
     }
     let asked = asked_of(kind, text);

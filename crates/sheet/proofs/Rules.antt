@@ -3,23 +3,26 @@
 -- `-there` and `-back` for the two directions: `parameter_iff` by the cases of the kind, `parameters_iff`, `distinct_iff` and `parents_iff` by
 -- induction on the list.
 -- Assumes nothing.
-use Prim.Native.Nat.{ℕ, ◌-◌, ◌≤◌}
+use Prim.Native.Nat.{ℕ, ◌-◌, ◌≤◌, ◌<◌}
 use native.Mathlib.Omega.{arith}
 use mathlib.Core.Path.{◌≡◌, refl, ap, sym, ◌∙◌}
-use mathlib.Core.Bool.{Bool, true, false, not, ◌&&◌, and-true, or-true}
+use mathlib.Core.Bool.{Bool, true, false, not, ◌&&◌, and-true, and-false, or-true}
 use mathlib.Core.Logic.{◌↔◌, ◌⊎◌, inl, inr, ⊎_elim}
 use mathlib.Core.List.{List, [], ◌∷◌}
 use Rattle.std.specs.List.{list_all}
 use lib.Dec.{leb, eqb}
 use lib.ListN.{length}
 use borrow.Author.Tests.{not-true, leb-true, le-leb, eqb-true, eqb-false, eq-eqb, ne_eqb}
+use Rattle.std.proofs.lemmas.Bool.{lt-leb}
 use Rattle.base.specs.Lists.{All, all_empty, all_cons, equal}
 use Rattle.base.specs.Between.{between}
 use Rattle.base.specs.Names.{is_name}
 use Rattle.base.proofs.Tests.{and_left, and_right, and_both, both_ways, or_either}
 use Rattle.base.proofs.Lists.{equal-same, equal_refl}
 use Rattle.base.proofs.Names.{name_iff, name-length}
-use Rattle.base.specs.Kinds.{bundle_kind}
+use Rattle.base.specs.Kinds.{bundle_kind, kind_number}
+use Rattle.base.specs.declared.kind.Kind.{Kind}
+use Rattle.base.proofs.Named.{no_kind_beyond}
 use Rattle.sheet.specs.Sheet.{Parameter, parameter, is_kind, is_parameter, are_parameters, clashes, absent, distinct, kind_at, has_parent, have_parents}
 use Rattle.sheet.specs.Encode.{ValueKind, WellFormedParameter, MayShare, Absent, HasParent, at_top, in_bundle, Distinct, distinct_empty, distinct_cons}
 use Rattle.sheet.proofs.Listed.{at_listed, listed_kind}
@@ -35,6 +38,15 @@ module _ (w : Bool) (k : ℕ) where
   pub kind_bundle : k ≡ 7 → w ≡ is_kind w k
   unfolding is_kind between
   kind_bundle e = rw (e, and-true w)
+
+  -- a number that is no kind's
+  pub no_kind : ((x : Kind) → kind_number x ≡ k → ⊥) → false ≡ is_kind w k
+  unfolding is_kind between
+  no_kind n =
+      ⊎_elim
+      (λ (l : k < 1). rw (lt-leb 1 k l, ne_eqb k 7 (λ e. omega (arith, e, l)), and-false w))
+      (λ (m : 7 < k). rw (lt-leb k 6 (omega (arith, m)), and-false (leb 1 k), ne_eqb k 7 (λ e. omega (arith, e, m)), and-false w))
+      (no_kind_beyond k n)
 
 -- what the name decides, where the kind is right
 name-decides : (w : Bool) (k c : ℕ) (n : List ℕ) (t : Bool) → t ≡ is_kind w k → t ≡ true → length n ≤ 30 → (r : Bool) → r ≡ is_name n → r ≡ is_parameter w (parameter k c n)

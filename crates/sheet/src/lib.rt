@@ -4,13 +4,14 @@
 #![tactic(auto)]
 
 ghost use Rattle.std.specs.Prelude.{◌≡◌, ℕ, List, ◌≤◌, ◌<◌, length, IfSome, Err, Ok, IfOk, IfErr};
+ghost use Rattle.base.specs.Kinds.{kind_number};
 ghost use Rattle.block.specs.Seal.{HasSize};
 ghost use Rattle.sheet.specs.Sheet.{parameter, parameter_count, parameters_of, is_kind, is_parameter, are_parameters, clashes, absent, distinct, kind_at, has_parent, have_parents, are_right, sheet_layout, read_sheet};
 ghost use Rattle.block.specs.Walking.{coming};
 ghost use Rattle.sheet.specs.Tables.{TableBy};
 ghost use Rattle.sheet.specs.Find.{find, enter, kinds_of, parents_of};
 
-use base::kind::{BUNDLE, PERIOD, STRING};
+use base::kind::Kind;
 use base::name::is_name;
 use block::{Flaw, Item, Walker};
 use std::marker::Model;
@@ -22,12 +23,26 @@ pub struct Found {
     pub kind: u8,
 }
 
-// Whether a kind is 1 to 6 or, on a sheet with bundles, 7.
+// Whether a kind may stand on a sheet: a bundle only on one with bundles.
 #[tactic(auto, unfolding(crate::specs::Sheet::is_kind, base::specs::Between::between))]
+fn may_stand(marked: bool, kind: Kind) -> bool
+    ensures { result ≡ is_kind marked (kind_number kind) }
+{
+    match kind {
+        Kind::Bundle => marked,
+        _ => true,
+    }
+}
+
+// Whether a number is 1 to 6 or, on a sheet with bundles, 7.
+#[tactic(auto, using(crate::proofs::Rules::no_kind))]
 fn is_kind(marked: bool, kind: u8) -> bool
     ensures { result ≡ is_kind marked kind }
 {
-    matches!(kind, STRING..=PERIOD) || (marked && kind == BUNDLE)
+    match Kind::of(kind) {
+        Some(kind) => may_stand(marked, kind),
+        None => false,
+    }
 }
 
 // Whether a kind is right, and a name has at most 30 bytes and is one by the rule.
@@ -85,7 +100,8 @@ fn kind_at(mut parameters: Walker<'_>, index: u8) -> u8
 fn has_parent(parameters: Walker<'_>, kind: u8, bundle: u8) -> bool
     ensures { result ≡ has_parent (coming parameter parameters.entry) kind bundle }
 {
-    bundle == 0 || (kind != BUNDLE && kind_at(parameters, bundle - 1) == BUNDLE)
+    bundle == 0
+        || (kind != Kind::Bundle as u8 && kind_at(parameters, bundle - 1) == Kind::Bundle as u8)
 }
 
 // Whether it is so with each of the parameters.
@@ -189,7 +205,7 @@ impl<'a> Sheet<'a> {
         ensures { result ≡ enter (parameters_of self.now) bundle name.now }
     {
         match self.find(bundle, name) {
-            Some(found) if found.kind == BUNDLE => found.index + 1,
+            Some(found) if found.kind == Kind::Bundle as u8 => found.index + 1,
             _ => 255,
         }
     }

@@ -9,6 +9,7 @@ use crate::RawTest;
 use crate::scan::{name_end, skip};
 use crate::value::read_value;
 use base::name::{is_name_start, is_reserved};
+use base::operator::Operator;
 
 // The operator at a position. The words stand in one text outside the loop, since a text in the code is copied each time it is
 // come to; two letters are compared as one number, which takes half the instructions.
@@ -23,7 +24,7 @@ pub fn read_operator(s: &[u8], at: usize) -> Option<u8>
     let second = s[at + 1];
     let letters = u16::from_be_bytes([first, second]);
     let words = b"eqnecoswewgtltgeleapsaebprposssbinnire";
-    for k in 0..base::operator::COUNT {
+    for k in 0..Operator::COUNT {
         let i = 2 * k as usize;
         let word = u16::from_be_bytes([words[i], words[i + 1]]);
         if letters == word {

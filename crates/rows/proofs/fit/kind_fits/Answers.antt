@@ -6,11 +6,11 @@ use Rattle.rows.proofs.fit.kind_fits.Goals as goal
 pub returns-then-kind-eq0 : goal.returns-then-kind-eq0
 returns-then-kind-eq0 c = search (kind_none, rules)
 
-pub returns-then-kind-eq-BUNDLE : goal.returns-then-kind-eq-BUNDLE
-returns-then-kind-eq-BUNDLE c = search (kind_bundle, rules)
+pub returns-then-kind : goal.returns-then-kind
+returns-then-kind c = search (kind_bundle, rules)
 
-pub returns-then-operator-ge19 : goal.returns-then-operator-ge19
-returns-then-operator-ge19 c = search (kind_no_operator, rules)
+pub returns-then-operator-ge-COUNT : goal.returns-then-operator-ge-COUNT
+returns-then-operator-ge-COUNT c = search (kind_no_operator, rules)
 
 pub returns : goal.returns
 returns c = search (kind_operator, rules)

@@ -6,8 +6,8 @@ use Rattle.search.proofs.faults.text_fault.Goals as goal
 pub returns-then-readable_at : goal.returns-then-readable_at
 returns-then-readable_at c = search (token-readable, rules)
 
-pub returns-then-kind-eq-TOKEN : goal.returns-then-kind-eq-TOKEN
-returns-then-kind-eq-TOKEN c = search (token_unreadable, rules)
+pub returns-then-kind : goal.returns-then-kind
+returns-then-kind c = search (token_unreadable, rules)
 
 pub slice_bounds-kind_fault-count : goal.slice_bounds-kind_fault-count
 slice_bounds-kind_fault-count c = search (prefix_within, rules)
