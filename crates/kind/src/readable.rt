@@ -6,8 +6,9 @@ ghost use Rattle.kind.specs.Readable.{card_readable, filter_readable, is_true, i
 use base::kind::Kind;
 use base::operator::Operator;
 
-// Whether a text is readable as a kind on a card.
+// Whether a text is readable as a kind on a card. It is part of its callers, so that a number comes to its kind's arm by one switch.
 #[tactic(auto, unfolding(crate::specs::Readable::card_readable, crate::specs::Table::of_kind, crate::specs::Table::kinds))]
+#[inline(always)]
 fn reads_on_card(kind: Kind, text: &[u8]) -> bool
     ensures { result ≡ card_readable (kind_number kind) text.now }
 {
