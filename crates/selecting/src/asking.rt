@@ -33,29 +33,33 @@ pub trait Asking {
         ensures same { question self.new ≡ question self.old };
 }
 
-// By the rows of a filter: they are opened once for all cards, and the lists are lent for them.
+// By the rows of a filter: they are opened once for all cards, in values that are lent, and the lists are lent for them.
 #[derive(Drop)]
 pub struct ByRows<'a> {
     sheet: &'a Sheet<'a>,
     kinds: [u8; 32],
     text: &'a [u8],
     rows: &'a [u32],
-    values: [Option<Opened>; 320],
+    values: &'a [Option<Opened>],
     cells: [u64; 608],
     spans: [i64; 128],
 }
 
 impl<'a> ByRows<'a> {
-    pub fn new(sheet: &'a Sheet<'a>, text: &'a [u8], rows: &'a [u32]) -> Self
+    pub fn new(
+        sheet: &'a Sheet<'a>,
+        text: &'a [u8],
+        rows: &'a [u32],
+        values: &'a mut [Option<Opened>],
+    ) -> Self
         requires text_len_bound { length text.now ≤ 1024 }
         requires whole { Whole rows.now }
-        requires rows_len_bound { length rows.now ≤ 320 }
-        ensures ready { RowsReady sheet.now result.kinds text.now rows.now result.values result.cells result.spans }
+        requires rows_in_bounds { length rows.now ≤ length values.old }
+        ensures ready { RowsReady sheet.now result.kinds text.now rows.now result.values.now result.cells result.spans }
         ensures parts { (result.sheet.now ≡ sheet.now) × (result.text.now ≡ text.now) × (result.rows.now ≡ rows.now) }
     {
         let kinds = sheet.kinds();
-        let mut values = [None; 320];
-        open_rows(&kinds, text, rows, &mut values);
+        open_rows(&kinds, text, rows, values);
         let mut cells = [0u64; 608];
         let spans = [0i64; 128];
         lend_for(&kinds, rows, &mut cells, &spans);
@@ -72,7 +76,7 @@ impl<'a> ByRows<'a> {
 }
 
 impl<'a> Asking for ByRows<'a> {
-    ghost ready = { λ asked. RowsReady asked.sheet.now asked.kinds asked.text.now asked.rows.now asked.values asked.cells asked.spans };
+    ghost ready = { λ asked. RowsReady asked.sheet.now asked.kinds asked.text.now asked.rows.now asked.values.now asked.cells asked.spans };
 
     ghost question = { λ asked. cells_question (parameters_of asked.sheet.now) asked.text.now asked.rows.now };
 
@@ -81,7 +85,7 @@ impl<'a> Asking for ByRows<'a> {
             &self.kinds,
             self.text,
             self.rows,
-            &self.values,
+            self.values,
             card,
             &mut self.cells,
             &mut self.spans,

@@ -4,6 +4,9 @@
 mod asking;
 
 ghost use Rattle.std.specs.Prelude.{◌≡◌, ◌%◌, ◌/◌, ◌≤◌, length};
+ghost use Rattle.sheet.specs.Sheet.{parameters_of};
+ghost use Rattle.row_judge.specs.Saying.{Whole};
+ghost use Rattle.one_card.specs.OneCard.{cells_question};
 ghost use Rattle.refusal.specs.Steps.{found};
 ghost use Rattle.answer.specs.Operations.{filter_question};
 ghost use Rattle.answer.specs.Searching.{search_question};
@@ -15,6 +18,7 @@ use card::Card;
 use checking::check;
 use preparing::fill;
 use refusal::{Reason, Refusal};
+use row_opener::Opened;
 use searching::read_search;
 use sheet::Sheet;
 
@@ -80,6 +84,61 @@ fn select_cards<A: Asking>(asking: &mut A, cards: &[u8], list: &mut [u32]) -> Re
     Ok(matches)
 }
 
+// Select by rows, which are opened once for the run in the values.
+fn select_opened(
+    sheet: &Sheet<'_>,
+    filter: &[u8],
+    rows: &[u32],
+    values: &mut [Option<Opened>],
+    cards: &[u8],
+    list: &mut [u32],
+) -> Result<usize, Refusal>
+    requires filter_len_bound { length filter.now ≤ 1024 }
+    requires whole { Whole rows.now }
+    requires rows_in_bounds { length rows.now ≤ length values.old }
+    ensures { Selects (found (cells_question (parameters_of sheet.now) filter.now rows.now)) cards.now list.old result list.new }
+{
+    let mut asking = ByRows::new(sheet, filter, rows, values);
+    select_cards(&mut asking, cards, list)
+}
+
+// The same of a few rows: their values take less time to clear.
+fn select_few(
+    sheet: &Sheet<'_>,
+    filter: &[u8],
+    rows: &[u32],
+    cards: &[u8],
+    list: &mut [u32],
+) -> Result<usize, Refusal>
+    requires filter_len_bound { length filter.now ≤ 1024 }
+    requires whole { Whole rows.now }
+    requires rows_len_bound { length rows.now ≤ 32 }
+    ensures { Selects (found (cells_question (parameters_of sheet.now) filter.now rows.now)) cards.now list.old result list.new }
+{
+    let mut values = [None; 32];
+    select_opened(sheet, filter, rows, &mut values, cards, list)
+}
+
+// The same of rows; good rows are that few.
+fn select_rows(
+    sheet: &Sheet<'_>,
+    filter: &[u8],
+    rows: &[u32],
+    cards: &[u8],
+    list: &mut [u32],
+) -> Result<usize, Refusal>
+    requires filter_len_bound { length filter.now ≤ 1024 }
+    requires whole { Whole rows.now }
+    requires rows_len_bound { length rows.now ≤ 320 }
+    ensures { Selects (found (cells_question (parameters_of sheet.now) filter.now rows.now)) cards.now list.old result list.new }
+{
+    if rows.len() <= 32 {
+        return select_few(sheet, filter, rows, cards, list);
+    }
+    let mut values = [None; 320];
+    select_opened(sheet, filter, rows, &mut values, cards, list)
+}
+
 // Select by the rows of the filter, which are written once for the run.
 fn select_by_rows(
     sheet: &[u8],
@@ -92,8 +151,7 @@ fn select_by_rows(
     let mut cells = [0u32; 1024];
     let filled = fill(sheet, filter, &mut cells)?;
     let sheet = Sheet { bytes: sheet };
-    let mut asking = ByRows::new(&sheet, filter, &cells[0..filled]);
-    select_cards(&mut asking, cards, list)
+    select_rows(&sheet, filter, &cells[0..filled], cards, list)
 }
 
 // Select by the filter's text, which is read again for each card.
