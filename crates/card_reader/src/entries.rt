@@ -19,8 +19,7 @@ fn begin(cells: &mut [u64])
 }
 
 // Whether the text of an entry is readable as its parameter's kind; where it is, keeps it as the entry e, if entries of the parameter are kept.
-fn take_entry(kinds: &[u8], cells: &mut [u64], spans: &mut [i64], e: usize, item: Item<'_>) -> bool
-    requires kinds_len { length kinds.now ≡ 32 }
+fn take_entry(kinds: &[u8; 32], cells: &mut [u64], spans: &mut [i64], e: usize, item: Item<'_>) -> bool
     requires lent { Lent cells.old spans.old }
     requires e_bound { e < 64 }
     requires mark_bound { item.mark < 256 }
@@ -43,8 +42,7 @@ fn take_entry(kinds: &[u8], cells: &mut [u64], spans: &mut [i64], e: usize, item
 }
 
 // Whether a well-formed card conforms to a sheet with these kinds; where it does, the lists have what is kept of its entries.
-pub fn read_entries(kinds: &[u8], card: &Card<'_>, cells: &mut [u64], spans: &mut [i64]) -> bool
-    requires kinds_len { length kinds.now ≡ 32 }
+pub fn read_entries(kinds: &[u8; 32], card: &Card<'_>, cells: &mut [u64], spans: &mut [i64]) -> bool
     requires lent { Lent cells.old spans.old }
     ensures { ReadsCard kinds.now card.now cells.old cells.new spans.new result }
 {

@@ -16,8 +16,7 @@ fn prepare(cells: &mut [u64], i: usize, kind: u8)
 }
 
 // Prepares the lists for a run: nothing is kept, and the kinds are those of the sheet.
-pub fn lend(kinds: &[u8], cells: &mut [u64], spans: &[i64])
-    requires kinds_len { length kinds.now ≡ 32 }
+pub fn lend(kinds: &[u8; 32], cells: &mut [u64], spans: &[i64])
     requires cells_len { length cells.old ≡ 608 }
     requires spans_len { length spans.now ≡ 128 }
     ensures { Lends kinds.now cells.new spans.now }

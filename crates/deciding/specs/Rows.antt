@@ -68,7 +68,6 @@ pub record Room (rows : List ℕ) (first n : ℕ) : Type 0 where
 
 -- rows can be judged on the card
 pub record Judgeable (kinds xs card : List ℕ) : Type 0 where
-  pub each_kind : length kinds ≡ 32
   pub short : length xs ≤ 1024
   pub conforming : conforms_to kinds (entries_of card) ≡ true
 

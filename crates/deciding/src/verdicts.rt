@@ -13,7 +13,7 @@ use row_judge::say_once;
 use rows::{Row, row_of};
 
 // The mark of what rows say: 1 for yes, 2 for no.
-fn verdict(kinds: &[u8], filter: &[u8], rows: &[u32], card: &Card<'_>) -> u8
+fn verdict(kinds: &[u8; 32], filter: &[u8], rows: &[u32], card: &Card<'_>) -> u8
     requires judgeable { Judgeable kinds.now filter.now card.now }
     requires whole { Whole rows.now }
     requires rows_len_bound { length rows.now ≤ 320 }
@@ -30,7 +30,7 @@ fn verdict(kinds: &[u8], filter: &[u8], rows: &[u32], card: &Card<'_>) -> u8
 // number behind them.
 #[cycle(gathering)]
 fn gather_rest(
-    kinds: &[u8],
+    kinds: &[u8; 32],
     filter: &[u8],
     rows: &[u32],
     card: &Card<'_>,
@@ -66,7 +66,7 @@ fn gather_rest(
 // after brackets is judged with the rows in them.
 #[cycle(gathering)]
 fn gather_from(
-    kinds: &[u8],
+    kinds: &[u8; 32],
     filter: &[u8],
     rows: &[u32],
     card: &Card<'_>,
@@ -84,13 +84,12 @@ fn gather_from(
 
 // Marks what each test that the rows state says of a card that conforms, and answers how many tests there are.
 pub fn gather_verdicts(
-    kinds: &[u8],
+    kinds: &[u8; 32],
     filter: &[u8],
     rows: &[u32],
     card: &Card<'_>,
     marks: &mut [u8],
 ) -> usize
-    requires kinds_len { length kinds.now ≡ 32 }
     requires filter_len_bound { length filter.now ≤ 1024 }
     requires whole { Whole rows.now }
     requires rows_len_bound { length rows.now ≤ 320 }

@@ -20,12 +20,11 @@ use row_opener::{Opened, open_rows};
 
 // Reads a card as accept_card does, and keeps what its entries read to; `kinds` are those of the sheet.
 fn take_card<'a>(
-    kinds: &[u8],
+    kinds: &[u8; 32],
     bytes: &'a [u8],
     cells: &mut [u64],
     spans: &mut [i64],
 ) -> Result<Card<'a>, Reason>
-    requires kinds_len { length kinds.now ≡ 32 }
     requires lent { Lent cells.old spans.old }
     ensures { TakesCard kinds.now bytes.now cells.old cells.new spans.new result }
 {
@@ -42,7 +41,7 @@ fn take_card<'a>(
 
 // The verdict of rows that were opened on a card, or why the card is refused; `kinds` are those of the sheet, and the lists are lent for the rows.
 pub fn judge_by_rows(
-    kinds: &[u8],
+    kinds: &[u8; 32],
     filter: &[u8],
     rows: &[u32],
     values: &[Option<Opened>],
@@ -50,7 +49,6 @@ pub fn judge_by_rows(
     cells: &mut [u64],
     spans: &mut [i64],
 ) -> Result<bool, Reason>
-    requires kinds_len { length kinds.now ≡ 32 }
     requires filter_len_bound { length filter.now ≤ 1024 }
     requires whole { Whole rows.now }
     requires opens { Opens kinds.now filter.now rows.now values.now (length rows.now) }
@@ -65,13 +63,12 @@ pub fn judge_by_rows(
 
 // The same of one card alone: the lists are lent for it.
 fn judge_opened(
-    kinds: &[u8],
+    kinds: &[u8; 32],
     filter: &[u8],
     rows: &[u32],
     values: &[Option<Opened>],
     card: &[u8],
 ) -> Result<bool, Reason>
-    requires kinds_len { length kinds.now ≡ 32 }
     requires filter_len_bound { length filter.now ≤ 1024 }
     requires whole { Whole rows.now }
     requires opens { Opens kinds.now filter.now rows.now values.now (length rows.now) }
@@ -84,8 +81,7 @@ fn judge_opened(
 }
 
 // The same of a few rows that are opened for this card alone: their lists take less time to clear.
-fn judge_few(kinds: &[u8], filter: &[u8], rows: &[u32], card: &[u8]) -> Result<bool, Reason>
-    requires kinds_len { length kinds.now ≡ 32 }
+fn judge_few(kinds: &[u8; 32], filter: &[u8], rows: &[u32], card: &[u8]) -> Result<bool, Reason>
     requires filter_len_bound { length filter.now ≤ 1024 }
     requires whole { Whole rows.now }
     requires rows_len_bound { length rows.now ≤ 32 }
@@ -97,8 +93,7 @@ fn judge_few(kinds: &[u8], filter: &[u8], rows: &[u32], card: &[u8]) -> Result<b
 }
 
 // The same of rows that are opened for this card alone; good rows are that few.
-pub fn judge_once(kinds: &[u8], filter: &[u8], rows: &[u32], card: &[u8]) -> Result<bool, Reason>
-    requires kinds_len { length kinds.now ≡ 32 }
+pub fn judge_once(kinds: &[u8; 32], filter: &[u8], rows: &[u32], card: &[u8]) -> Result<bool, Reason>
     requires filter_len_bound { length filter.now ≤ 1024 }
     requires whole { Whole rows.now }
     requires rows_len_bound { length rows.now ≤ 320 }

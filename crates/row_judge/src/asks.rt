@@ -19,8 +19,7 @@ fn keep_tests(rows: &[u32], cells: &mut [u64], spans: &[i64])
 }
 
 // Prepares the lists for a run by these rows: the entries of every parameter that they ask about are kept.
-pub fn lend_for(kinds: &[u8], rows: &[u32], cells: &mut [u64], spans: &[i64])
-    requires kinds_len { length kinds.now ≡ 32 }
+pub fn lend_for(kinds: &[u8; 32], rows: &[u32], cells: &mut [u64], spans: &[i64])
     requires cells_len { length cells.old ≡ 608 }
     requires spans_len { length spans.now ≡ 128 }
     ensures { LentFor kinds.now rows.now cells.new spans.now }

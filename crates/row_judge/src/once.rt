@@ -14,14 +14,13 @@ use row_opener::{Opened, open_rows};
 
 // What rows that were opened say of the entries that count of a card that conforms to a sheet with these kinds.
 fn say_opened(
-    kinds: &[u8],
+    kinds: &[u8; 32],
     filter: &[u8],
     rows: &[u32],
     values: &[Option<Opened>],
     card: &Card<'_>,
     chosen: Chosen,
 ) -> bool
-    requires kinds_len { length kinds.now ≡ 32 }
     requires filter_len_bound { length filter.now ≤ 1024 }
     requires whole { Whole rows.now }
     requires opens { Opens kinds.now filter.now rows.now values.now (length rows.now) }
@@ -36,8 +35,7 @@ fn say_opened(
 }
 
 // The same of rows that are opened for this card; good rows are that few.
-pub fn say_once(kinds: &[u8], filter: &[u8], rows: &[u32], card: &Card<'_>, chosen: Chosen) -> bool
-    requires kinds_len { length kinds.now ≡ 32 }
+pub fn say_once(kinds: &[u8; 32], filter: &[u8], rows: &[u32], card: &Card<'_>, chosen: Chosen) -> bool
     requires filter_len_bound { length filter.now ≤ 1024 }
     requires whole { Whole rows.now }
     requires rows_len_bound { length rows.now ≤ 320 }

@@ -43,8 +43,7 @@ fn opened_text(meaning: Meaning, filter: &[u8], value: RawValue) -> Opened
 }
 
 // Of a test, if it has a value.
-fn opened_probe(kinds: &[u8], filter: &[u8], probe: Probe) -> Option<Opened>
-    requires kinds_len { length kinds.now ≡ 32 }
+fn opened_probe(kinds: &[u8; 32], filter: &[u8], probe: Probe) -> Option<Opened>
     requires filter_len_bound { length filter.now ≤ 1024 }
     requires index_bound { probe.index < 32 }
     ensures { result ≡ opened_for kinds.now filter.now probe }
@@ -64,8 +63,7 @@ fn opened_probe(kinds: &[u8], filter: &[u8], probe: Probe) -> Option<Opened>
 }
 
 // Of a row: only that of a test has a value.
-fn opened_row(kinds: &[u8], filter: &[u8], cell: u32) -> Option<Opened>
-    requires kinds_len { length kinds.now ≡ 32 }
+fn opened_row(kinds: &[u8; 32], filter: &[u8], cell: u32) -> Option<Opened>
     requires filter_len_bound { length filter.now ≤ 1024 }
     ensures { result ≡ opened_row kinds.now filter.now cell }
 {
@@ -79,8 +77,7 @@ fn opened_row(kinds: &[u8], filter: &[u8], cell: u32) -> Option<Opened>
 }
 
 // Opens rows: each has its value at its own place, if it has one.
-pub fn open_rows(kinds: &[u8], filter: &[u8], rows: &[u32], values: &mut [Option<Opened>])
-    requires kinds_len { length kinds.now ≡ 32 }
+pub fn open_rows(kinds: &[u8; 32], filter: &[u8], rows: &[u32], values: &mut [Option<Opened>])
     requires filter_len_bound { length filter.now ≤ 1024 }
     requires rows_in_bounds { length rows.now ≤ length values.old }
     ensures { Opens kinds.now filter.now rows.now values.new (length rows.now) }

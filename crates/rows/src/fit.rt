@@ -46,8 +46,7 @@ fn value_fits(operator: u8, kind: u8, filter: &[u8], value: RawValue) -> bool
 }
 
 // Whether a test names a parameter with its operator, and its value is one by the grammar and readable.
-fn probe_fits(kinds: &[u8], filter: &[u8], probe: Probe) -> bool
-    requires kinds_len { length kinds.now ≡ 32 }
+fn probe_fits(kinds: &[u8; 32], filter: &[u8], probe: Probe) -> bool
     requires filter_len_bound { length filter.now ≤ 1024 }
     requires index_bound { probe.index < 32 }
     ensures { result ≡ probe_fits kinds.now filter.now probe }
@@ -67,9 +66,7 @@ fn probe_fits(kinds: &[u8], filter: &[u8], probe: Probe) -> bool
 }
 
 // Whether a test fits where it stands, 0 at the top and a bundle's index plus 1 in its brackets.
-pub fn stands(kinds: &[u8], parents: &[u8], filter: &[u8], probe: Probe, scope: u8) -> bool
-    requires kinds_len { length kinds.now ≡ 32 }
-    requires parents_len { length parents.now ≡ 32 }
+pub fn stands(kinds: &[u8; 32], parents: &[u8; 32], filter: &[u8], probe: Probe, scope: u8) -> bool
     requires filter_len_bound { length filter.now ≤ 1024 }
     requires index_bound { probe.index < 32 }
     ensures { result ≡ (probe_fits kinds.now filter.now probe && eqb (get_or parents.now probe.index 0) scope) }
@@ -82,9 +79,7 @@ pub fn stands(kinds: &[u8], parents: &[u8], filter: &[u8], probe: Probe, scope: 
 }
 
 // The index plus 1 of the bundle that a test's parameter is a member of, where the cell says a test and it fits; else 0.
-pub fn member_of(kinds: &[u8], parents: &[u8], filter: &[u8], cell: u32) -> u8
-    requires kinds_len { length kinds.now ≡ 32 }
-    requires parents_len { length parents.now ≡ 32 }
+pub fn member_of(kinds: &[u8; 32], parents: &[u8; 32], filter: &[u8], cell: u32) -> u8
     requires filter_len_bound { length filter.now ≤ 1024 }
     ensures { result ≡ member_by kinds.now parents.now filter.now (row_of cell) }
 {

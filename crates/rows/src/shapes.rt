@@ -51,15 +51,13 @@ fn joined(first: Shape, second: Shape) -> Shape
 // Of the first test of rows, after brackets with so many rows in them.
 #[cycle(shapes)]
 fn shape_in_brackets(
-    kinds: &[u8],
-    parents: &[u8],
+    kinds: &[u8; 32],
+    parents: &[u8; 32],
     filter: &[u8],
     rows: &[u32],
     size: usize,
     calls: usize,
 ) -> Option<Begun>
-    requires kinds_len { length kinds.now ≡ 32 }
-    requires parents_len { length parents.now ≡ 32 }
     requires filter_len_bound { length filter.now ≤ 1024 }
     requires rows_len_bound { length rows.now ≤ 320 }
     ensures { BeganInBrackets kinds.now parents.now filter.now calls rows.now size result }
@@ -85,15 +83,13 @@ fn shape_in_brackets(
 // Of the first test of rows, with the brackets before it, in a scope.
 #[cycle(shapes)]
 fn shape_of_first(
-    kinds: &[u8],
-    parents: &[u8],
+    kinds: &[u8; 32],
+    parents: &[u8; 32],
     filter: &[u8],
     rows: &[u32],
     scope: u8,
     calls: usize,
 ) -> Option<Begun>
-    requires kinds_len { length kinds.now ≡ 32 }
-    requires parents_len { length parents.now ≡ 32 }
     requires filter_len_bound { length filter.now ≤ 1024 }
     requires in_bounds { 1 ≤ length rows.now }
     requires rows_len_bound { length rows.now ≤ 320 }
@@ -124,16 +120,14 @@ fn shape_of_first(
 // Of all rows, with the shape of those before the next in hand.
 #[cycle(shapes)]
 fn shape_with(
-    kinds: &[u8],
-    parents: &[u8],
+    kinds: &[u8; 32],
+    parents: &[u8; 32],
     filter: &[u8],
     rows: &[u32],
     scope: u8,
     calls: usize,
     begun: Begun,
 ) -> Option<Shape>
-    requires kinds_len { length kinds.now ≡ 32 }
-    requires parents_len { length parents.now ≡ 32 }
     requires filter_len_bound { length filter.now ≤ 1024 }
     requires rows_len_bound { length rows.now ≤ 320 }
     requires in_hand { InHand kinds.now parents.now filter.now scope calls rows.now begun.next begun.shape }
@@ -168,15 +162,13 @@ fn shape_with(
 // Of what rows state in a scope, by at most so many calls within calls.
 #[cycle(shapes)]
 pub fn shape_of(
-    kinds: &[u8],
-    parents: &[u8],
+    kinds: &[u8; 32],
+    parents: &[u8; 32],
     filter: &[u8],
     rows: &[u32],
     scope: u8,
     calls: usize,
 ) -> Option<Shape>
-    requires kinds_len { length kinds.now ≡ 32 }
-    requires parents_len { length parents.now ≡ 32 }
     requires filter_len_bound { length filter.now ≤ 1024 }
     requires rows_len_bound { length rows.now ≤ 320 }
     ensures { result ≡ shape_by (fits_in kinds.now parents.now filter.now scope) (stated_in calls rows.now) }

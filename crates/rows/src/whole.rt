@@ -11,9 +11,7 @@ const MOST_ROWS: usize = 320;
 const MOST_CALLS: usize = 18;
 
 // Whether rows are good for a filter's text, on a sheet with these kinds and parents by index.
-pub fn are_good(kinds: &[u8], parents: &[u8], filter: &[u8], rows: &[u32]) -> bool
-    requires kinds_len { length kinds.now ≡ 32 }
-    requires parents_len { length parents.now ≡ 32 }
+pub fn are_good(kinds: &[u8; 32], parents: &[u8; 32], filter: &[u8], rows: &[u32]) -> bool
     requires filter_len_bound { length filter.now ≤ 1024 }
     ensures { result ≡ good kinds.now parents.now filter.now rows.now }
 {

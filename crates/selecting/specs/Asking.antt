@@ -14,7 +14,6 @@ use Rattle.answer.specs.Passing.{Passing}
 -- by the rows of a filter: they were opened, and the lists are lent for them
 pub record RowsReady (sheet kinds text rows : List ℕ) (values : List (Option Opened)) (cells : List ℕ) (spans : List ℤ) : Type 0 where
   pub kinds_are : kinds ≡ kinds_of (parameters_of sheet)
-  pub all_kinds : length kinds ≡ 32
   pub short : length text ≤ 1024
   pub whole : Whole rows
   pub opens : Opens kinds text rows values (length rows)

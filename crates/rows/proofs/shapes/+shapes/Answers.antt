@@ -17,7 +17,7 @@ pub shape_in_brackets-returns-then-bundle-eq0 : goal.shape_in_brackets-returns-t
 shape_in_brackets-returns-then-bundle-eq0 t c = search (brackets_no_member, rules)
 
 pub shape_in_brackets-shape_of-requires : goal.shape_in_brackets-shape_of-requires
-shape_in_brackets-shape_of-requires t c = (omega arith, (search rules, (search rules, (search rules, search (part_few, rules)))))
+shape_in_brackets-shape_of-requires t c = (omega arith, (search rules, search (part_few, rules)))
 
 pub shape_in_brackets-deeper-requires-clause-tests_bound : goal.shape_in_brackets-deeper-requires-clause-tests_bound
 shape_in_brackets-deeper-requires-clause-tests_bound t c = tests_few _ _ _ c.requires.rows_len_bound _ _ _ c.shape_of.ensures _ c.in_ok-inner.was
@@ -38,10 +38,10 @@ pub shape_of-returns-then-rows-eq0 : goal.shape_of-returns-then-rows-eq0
 shape_of-returns-then-rows-eq0 t c = search (no_rows, rules)
 
 pub shape_of-shape_of_first-requires : goal.shape_of-shape_of_first-requires
-shape_of-shape_of_first-requires t c = (omega arith, (search rules, (search rules, (search rules, (search rules, search rules)))))
+shape_of-shape_of_first-requires t c = (omega arith, (search rules, (search rules, search rules)))
 
 pub shape_of-shape_with-requires : goal.shape_of-shape_with-requires
-shape_of-shape_with-requires t c = (omega arith, (search rules, (search rules, (search rules, (search rules, search (began_hand, rules))))))
+shape_of-shape_with-requires t c = (omega arith, (search rules, (search rules, search (began_hand, rules))))
 
 pub shape_of-returns : goal.shape_of-returns
 shape_of-returns t c = search (began_read, rules)
@@ -59,7 +59,7 @@ pub shape_of_first-returns-then-scope-gt0 : goal.shape_of_first-returns-then-sco
 shape_of_first-returns-then-scope-gt0 t c = search (first-inside, rules)
 
 pub shape_of_first-shape_in_brackets-requires : goal.shape_of_first-shape_in_brackets-requires
-shape_of_first-shape_in_brackets-requires t c = (omega arith, (search rules, (search rules, (search rules, search rules))))
+shape_of_first-shape_in_brackets-requires t c = (omega arith, (search rules, search rules))
 
 pub shape_of_first-returns-else-stands : goal.shape_of_first-returns-else-stands
 shape_of_first-returns-else-stands t c = search (first_misfits, rules)
@@ -80,7 +80,7 @@ pub shape_with-returns-then-size-rows : goal.shape_with-returns-then-size-rows
 shape_with-returns-then-size-rows t c = search (hand_large, rules)
 
 pub shape_with-shape_of-requires-in-Connect : goal.shape_with-shape_of-requires-in-Connect
-shape_with-shape_of-requires-in-Connect t c = (omega arith, (search rules, (search rules, (search rules, search (part_few, rules)))))
+shape_with-shape_of-requires-in-Connect t c = (omega arith, (search rules, search (part_few, rules)))
 
 pub shape_with-joined-shape-requires-clause-tests_bound : goal.shape_with-joined-shape-requires-clause-tests_bound
 shape_with-joined-shape-requires-clause-tests_bound t c = search (hand_few_tests, rules)

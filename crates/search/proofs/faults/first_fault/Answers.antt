@@ -7,8 +7,8 @@ use Rattle.search.proofs.faults.first_fault.Goals as goal
 pub loop-row-init : goal.loop-row-init
 loop-row-init c = search (facing_starts, rules)
 
-pub row_fault-requires-clause-row_within : goal.row_fault-requires-clause-row_within
-row_fault-requires-clause-row_within c = search (facing_row, rules)
+pub row_fault-requires : goal.row_fault-requires
+row_fault-requires c = search (facing_row, rules)
 
 pub returns-in_err-row_fault : goal.returns-in_err-row_fault
 returns-in_err-row_fault c = let p = err_from_is_err_and c.from_residual.result c.from_residual.ensures.1 in rw (p.1, p.2) (search (facing_fault, c.in_err-row_fault.was, rules))

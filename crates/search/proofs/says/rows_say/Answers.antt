@@ -6,8 +6,8 @@ use Rattle.search.proofs.says.rows_say.Goals as goal
 pub loop-row-init : goal.loop-row-init
 loop-row-init c = search (saying-starts, rules)
 
-pub row_says-said-requires-clause-row_within : goal.row_says-said-requires-clause-row_within
-row_says-said-requires-clause-row_within c = search (saying-row, rules)
+pub row_says-said-requires : goal.row_says-said-requires
+row_says-said-requires c = search (saying-row, rules)
 
 pub returns-then-is_unmet : goal.returns-then-is_unmet
 returns-then-is_unmet c = search (saying_fails, rules)
