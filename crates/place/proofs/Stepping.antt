@@ -18,7 +18,7 @@ use lib.ListN.{length, get_or, take, drop, drop_of_length-le}
 use lib.Seq.{drop-cons, drop-drop}
 use borrow.Author.Tests.{eq-eqb, ne_eqb, lt-ltb, ltb-true}
 use Rattle.base.specs.Ascii.{ascii}
-use Rattle.base.specs.Lists.{equal, member}
+use Rattle.base.specs.Lists.{equal}
 use Rattle.base.specs.Names.{is_name_start, is_name_part, is_name}
 use Rattle.base.specs.Parts.{part}
 use Rattle.base.specs.Operators.{operator_words}
@@ -37,14 +37,6 @@ use Rattle.place.specs.Code as coded
 use Rattle.place.specs.Code.{Outcome, digits, full, on, opened, chosen, closed, joined, ended, not_step, name_ends, on_quoted, quoted, by_mode, advance, name_from, phase_of}
 
 -- ---- leaves
-
-pub begins_first : (b : ℕ) (r : Bool) → r ≡ member b (ascii "cegns") → r ≡ true → true ≡ begins_operator b
-unfolding begins_operator
-begins_first b r e h = rw (sym e ∙ h)
-
-pub begins_other : (b : ℕ) (r t : Bool) → r ≡ member b (ascii "cegns") → r ≡ false → t ≡ member b (ascii "ailpr") → t ≡ begins_operator b
-unfolding begins_operator
-begins_other b r t e h f = rw (sym e ∙ h) f
 
 found_some : (j : ℕ) (us : List (List ℕ)) (w : List ℕ) → is_some (find_operator j us w) ≡ some_word (λ u. equal w u) us
 unfolding find_operator some_word
@@ -355,15 +347,6 @@ unfolding digits
 over-digits [] n f = sym (and-true (item_over f))
 over-digits (round_open ∷ k) n f = sym (ap (λ (b : Bool). item_over f && b) (ne_eqb (2 * digits k) 1 (λ e. omega (arith, digits_some k))) ∙ and-false (item_over f))
 over-digits (square-open ∷ k) n f = sym (ap (λ (b : Bool). item_over f && b) (ne_eqb (2 * digits k + 1) 1 (λ e. omega (arith, digits_some k))) ∙ and-false (item_over f))
-
--- as the code tests it
-pub over_not : (r : Reached) (t : Bool) → t ≡ coded.item_over r.mode → t ≡ false → false ≡ coded.over r
-unfolding coded.over
-over_not r t e h = rw (sym e ∙ h)
-
-pub over_brackets : (r : Reached) (t : Bool) → t ≡ coded.item_over r.mode → t ≡ true → eqb r.brackets 1 ≡ coded.over r
-unfolding coded.over
-over_brackets r t e h = rw (sym e ∙ h)
 
 failed : (xs : List ℕ) (f : Refusal) → is_filter deepest most_tests xs ≡ false → f ≡ failure deepest most_tests xs → Err f ≡ found deepest most_tests xs
 unfolding found

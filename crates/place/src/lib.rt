@@ -1,6 +1,6 @@
 // Where a text stops being the beginning of a filter, and why. The text is gone over byte by byte, for as long as some filter
 // within both limits begins with the bytes so far.
-#![tactic(auto)]
+#![tactic(auto, using(crate::proofs::Choices::choices))]
 
 mod step;
 
@@ -65,6 +65,7 @@ fn item_over(mode: Mode) -> bool
 }
 
 // Whether a filter may end there: an item has ended, and no bracket is open.
+#[tactic(auto, unfolding(crate::specs::Code::over))]
 fn is_over(reached: Reached) -> bool
     ensures { result ≡ over reached }
 {
@@ -100,6 +101,7 @@ pub fn find(s: &[u8]) -> Result<(), Refusal>
 }
 
 // Where a text that is no filter stops being the beginning of one.
+#[tactic(auto, using(crate::proofs::Stepping::failure_filter, crate::proofs::Stepping::failure_failed))]
 pub fn find_failure(s: &[u8]) -> Refusal
     ensures { result ≡ failure deepest most_tests s.now }
 {

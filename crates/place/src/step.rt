@@ -191,6 +191,7 @@ fn member_byte(s: &[u8], from: usize, at: usize, brackets: usize, tests: usize) 
 }
 
 // Whether a letter begins one of eq, ne, co, sw, ew, gt, ge, sa, eb, ss, sb, ni.
+#[tactic(auto, unfolding(base::specs::Lists::member))]
 fn is_first(b: u8) -> bool
     ensures { result ≡ member b (ascii "cegns") }
 {
@@ -198,6 +199,7 @@ fn is_first(b: u8) -> bool
 }
 
 // Whether it begins one of lt, le, ap, pr, po, in, re.
+#[tactic(auto, unfolding(base::specs::Lists::member))]
 fn is_other(b: u8) -> bool
     ensures { result ≡ member b (ascii "ailpr") }
 {
@@ -205,6 +207,7 @@ fn is_other(b: u8) -> bool
 }
 
 // Whether an operator begins with the letter.
+#[tactic(auto, unfolding(crate::specs::Machine::begins_operator))]
 fn begins_operator(b: u8) -> bool
     ensures { result ≡ begins_operator b }
 {
@@ -215,6 +218,7 @@ fn begins_operator(b: u8) -> bool
 }
 
 // Whether two letters are an operator.
+#[tactic(auto, using(crate::proofs::Stepping::operator_is))]
 fn is_operator(first: u8, second: u8) -> bool
     ensures { result ≡ is_operator (first ∷ second ∷ []) }
 {
@@ -299,6 +303,7 @@ fn after_space_byte(b: u8, brackets: usize, tests: usize) -> Outcome
 }
 
 // What the byte at a position does.
+#[tactic(auto, using(crate::proofs::Stepping::by_mode_lem))]
 pub fn advance(s: &[u8], at: usize, reached: Reached) -> Outcome
     requires at_in_bounds { at < length s.now }
     requires mode_bound { name_from reached.mode ≤ at }

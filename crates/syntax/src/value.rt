@@ -1,5 +1,5 @@
 // Values: bare words, and strings with escapes.
-ghost use Rattle.std.specs.Prelude.{◌≡◌, false, ◌||◌, ◌+◌, ◌≤◌, length};
+ghost use Rattle.std.specs.Prelude.{◌≡◌, false, ◌+◌, ◌≤◌, length};
 ghost use Rattle.base.specs.Runs.{RunEnd};
 ghost use Rattle.syntax.specs.Strings.{is_bare, is_escape, unescaped};
 ghost use Rattle.syntax.specs.Scan.{step_of, string_at, value_at, piece_of, Decoded};
@@ -72,13 +72,6 @@ pub fn string_step(pending: bool, b: u8) -> StringStep
     StringStep::More(false)
 }
 
-// Whether one of the two holds.
-fn either(a: bool, b: bool) -> bool
-    ensures { result ≡ (a || b) }
-{
-    if a { true } else { b }
-}
-
 // The closing quote of a string whose first byte, after the opening quote, is at the position.
 fn read_string(s: &[u8], at: usize) -> Option<StringEnd>
     requires { at ≤ length s.now }
@@ -89,7 +82,7 @@ fn read_string(s: &[u8], at: usize) -> Option<StringEnd>
     for end in at..s.len() {
         match string_step(pending, s[end]) {
             StringStep::More(next) => {
-                escaped = either(escaped, next);
+                escaped |= next;
                 pending = next;
             }
             StringStep::Close => return Some(StringEnd { end, escaped }),

@@ -1,9 +1,0 @@
--- `place::step::is_first` meets its contract: each answer is a case of the definition. Assumes nothing.
-use Rattle.base.proofs.Lists.{member_arm, member_rest}
-use Rattle.place.proofs.step.is_first.Goals as goal
-
-pub returns-in-101 : goal.returns-in-101
-returns-in-101 c = member_arm _ _ c.in-101.is
-
-pub returns-in_default : goal.returns-in_default
-returns-in_default c = member_rest _ _ c.in_default.in_default-own.rest.1
