@@ -6,16 +6,12 @@ use Rattle.number.specs.Value.{Bounded}
 use Prim.Native.Nat.{ℕ}
 use native.Mathlib.Omega.{arith}
 use mathlib.Core.Path.{◌≡◌, refl, subst}
-use mathlib.Core.Bool.{Bool}
 use mathlib.Core.List.{List}
 use Rattle.number.specs.Reading as numbers
 use Rattle.number.specs.declared.Decimal.{Decimal}
-use Rattle.period.specs.Texts as periods
-use Rattle.kind.specs.declared.DateRelation.{DateRelation}
 use Rattle.number.proofs.Spelling.{number_bounded}
 use Rattle.kind.specs.declared.Relation.{Relation}
-use Rattle.kind.specs.declared.Readings.{Readings}
-use Rattle.kind.specs.Relations.{Kept, date_readings_relate, relates_to, unread, readings_of, relates_read}
+use Rattle.kind.specs.Relations.{Kept, relates_to, unread, readings_of, relates_read}
 
 -- ---- a card's number and a filter's, where both were read
 
@@ -52,7 +48,3 @@ readings_kept (Relation.Numbers r) f = number_kept f (numbers.read f) refl
 readings_kept (Relation.Dates r) f = unread_kept
 readings_kept Relation.Tokens f = unread_kept
 readings_kept Relation.References f = unread_kept
-
-pub dates_read : (relation : Relation) (i f : List ℕ) (v : Readings) (r : DateRelation) (t : Bool) → relation ≡ Relation.Dates r → t ≡ date_readings_relate r (periods.read_span i) v.date → t ≡ relates_read relation i f v
-unfolding relates_read
-dates_read relation i f v r t h e = rw h e

@@ -1,9 +1,7 @@
 // Whether a card's text stands in a relation to a filter's value.
 ghost use Rattle.std.specs.Prelude.{◌≡◌};
 ghost use Rattle.number.specs.Value.{Bounded};
-ghost use Rattle.kind.specs.Relations.{Kept, strings_relate, numbers_relate, dates_relate, number_readings_relate, date_readings_relate, unread, readings_of, relates_read};
-ghost use Rattle.number.specs.Reading as numbers;
-ghost use Rattle.period.specs.Texts as periods;
+ghost use Rattle.kind.specs.Relations.{Kept, strings_relate, numbers_relate, dates_relate, unread, readings_of, relates_read};
 
 use crate::{DateRelation, NumberRelation, Readings, Relation, StringRelation};
 use date::Date;
@@ -38,16 +36,6 @@ pub fn numbers_relate(relation: NumberRelation, i: Decimal, f: Decimal) -> bool
     }
 }
 
-// A card's text and a filter's number that was read.
-fn number_readings_relate(relation: NumberRelation, text: &[u8], value: Option<Decimal>) -> bool
-    requires { Kept value }
-    ensures { result ≡ number_readings_relate relation (numbers.read text.now) value }
-{
-    number::read(text)
-        .zip(value)
-        .is_some_and(|(i, f)| numbers_relate(relation, i, f))
-}
-
 // A card's period, which a date is too, and a filter's date.
 pub fn dates_relate(relation: DateRelation, i: Period, f: Date) -> bool
     ensures { result ≡ dates_relate relation i f }
@@ -63,15 +51,6 @@ pub fn dates_relate(relation: DateRelation, i: Period, f: Date) -> bool
         DateRelation::Overlaps => period::overlaps(i, f),
         DateRelation::Covers => period::covers(i, f),
     }
-}
-
-// A card's text and a filter's date that was read.
-fn date_readings_relate(relation: DateRelation, text: &[u8], value: Option<Date>) -> bool
-    ensures { result ≡ date_readings_relate relation (periods.read_span text.now) value }
-{
-    period::read_span(text)
-        .zip(value)
-        .is_some_and(|(i, f)| dates_relate(relation, i, f))
 }
 
 // Of a value whose bytes are compared.
@@ -104,14 +83,19 @@ pub fn readings_of(relation: Relation, value: &[u8]) -> Readings
 }
 
 // Whether the card's text stands in the relation to the filter's value, which was read already.
+#[tactic(auto, unfolding(crate::specs::Relations::relates_read))]
 pub fn relates_read(relation: Relation, text: &[u8], value: &[u8], readings: Readings) -> bool
     requires { Kept readings.number }
     ensures { result ≡ relates_read relation text.now value.now readings }
 {
     match relation {
         Relation::Strings(r) => strings_relate(r, text, value),
-        Relation::Numbers(r) => number_readings_relate(r, text, readings.number),
-        Relation::Dates(r) => date_readings_relate(r, text, readings.date),
+        Relation::Numbers(r) => number::read(text)
+            .zip(readings.number)
+            .is_some_and(|(i, f)| numbers_relate(r, i, f)),
+        Relation::Dates(r) => period::read_span(text)
+            .zip(readings.date)
+            .is_some_and(|(i, f)| dates_relate(r, i, f)),
         Relation::Tokens => token::matches(text, value),
         Relation::References => text::same(text, value),
     }
