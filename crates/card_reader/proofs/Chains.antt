@@ -13,7 +13,6 @@ use mathlib.Core.Logic.{⊎_elim}
 use mathlib.Core.Bool.{Bool, true, false, ◌&&◌, ◌||◌}
 use mathlib.Core.List.{List, [], ◌∷◌}
 use lib.Dec.{eqb, ltb}
-use lib.IntN.{ℤ}
 use lib.ListN.{length, get_or}
 use borrow.Author.Tests.{eq-eqb, ne_eqb, lt-ltb}
 use Rattle.base.specs.Parts.{part}
@@ -26,8 +25,10 @@ use Rattle.judge.specs.Sets.{Chosen, values_at, counts, chosen_of, keep}
 use Rattle.judge.specs.Verdicts.{some_value, text_counts}
 use Rattle.judge.proofs.Once.{once_counts}
 use Rattle.card_reader.specs.Readings.{Serves}
-use Rattle.card_reader.specs.Lists.{entry_cell, reading_at, no_entry, Holds, Last, IsKept, KeepsCard}
+use Rattle.card_reader.specs.Lists.{none_kept, no_entry, Holds, Last, IsKept, KeepsCard}
 use Rattle.card_reader.specs.Listed.{entry_counts, some_before, OnChain, FirstFrom}
+use Rattle.card_reader.specs.declared.Kept.{Kept}
+use Rattle.card_reader.specs.declared.KeptEntry.{KeptEntry}
 use Rattle.card_reader.specs.declared.TextReading.{TextReading}
 use Rattle.card_reader.proofs.Reading.{card_few}
 
@@ -93,45 +94,42 @@ entries_length card = items-length entry (entry_count card) card 6
 
 -- ---- where a chain begins, and where it goes on
 
-module _ (card cells : List ℕ) (spans : List ℤ) (h : KeepsCard card cells spans) (i : ℕ) where
-  pub chain_begins : (n : ℕ) → i < 32 → IsKept cells i → n ≡ get_or cells i 0 → OnChain card cells i n
+module _ (card : List ℕ) (kept : Kept) (h : KeepsCard card kept) (i : ℕ) where
+  pub chain_begins : (n : ℕ) → i < 32 → IsKept kept i → n ≡ get_or kept.last i 0 → OnChain card kept i n
   chain_begins n l k e =
       let top : Last (entries_of card) i (entry_count card) n = subst (Last (entries_of card) i (entry_count card)) (sym e) (h.holds.heads i l k) in
-      record { low = l; kept = k; few = card_few card h.well_formed; within = top.within; under = top.under }
+      record { low = l; is_kept = k; few = card_few card h.well_formed; within = top.within; under = top.under }
 
   -- all entries are asked by the chain from its beginning
-  pub chain_all : (f : Entry → Bool) (n : ℕ) → i < 32 → IsKept cells i → n ≡ get_or cells i 0 → some_before f i (entries_of card) (length (entries_of card)) ≡ some_before f i (entries_of card) n
+  pub chain_all : (f : Entry → Bool) (n : ℕ) → i < 32 → IsKept kept i → n ≡ get_or kept.last i 0 → some_before f i (entries_of card) (length (entries_of card)) ≡ some_before f i (entries_of card) n
   chain_all f n l k e =
       let top : Last (entries_of card) i (entry_count card) n = subst (Last (entries_of card) i (entry_count card)) (sym e) (h.holds.heads i l k) in
       ap (some_before f i (entries_of card)) (entries_length card) ∙ before_last f i (entries_of card) (entry_count card) n top
 
-  module _ (c : ℕ) (o : OnChain card cells i c) (l : 0 < c) where
+  module _ (c : ℕ) (o : OnChain card kept i c) (l : 0 < c) where
     here : (get_or (entries_of card) (c - 1) no_entry).index ≡ i
     here = o.under (c - 1) (omega (arith, l))
 
-    here_kept : IsKept cells (get_or (entries_of card) (c - 1) no_entry).index
-    here_kept = subst (IsKept cells) (sym here) o.kept
+    here_kept : IsKept kept (get_or (entries_of card) (c - 1) no_entry).index
+    here_kept = subst (IsKept kept) (sym here) o.is_kept
 
-    pub chain_holds : Holds card cells spans (c - 1) (get_or (entries_of card) (c - 1) no_entry)
+    pub chain_holds : Holds card (get_or kept.entries (c - 1) none_kept) (get_or (entries_of card) (c - 1) no_entry)
     chain_holds = h.holds.each (c - 1) (omega (arith, o.within, l)) here_kept
 
     pub chain_room : c - 1 < 64
     chain_room = omega (arith, o.within, o.few, l)
 
-    pub chain_byte : get_or cells (entry_cell (c - 1) + 1) 0 < 256
-    chain_byte = omega (arith, chain_holds.occurrence, chain_holds.byte)
-
-    last_behind : (n : ℕ) → n ≡ get_or cells (entry_cell (c - 1)) 0 → Last (entries_of card) i (c - 1) n
+    last_behind : (n : ℕ) → n ≡ (get_or kept.entries (c - 1) none_kept).behind → Last (entries_of card) i (c - 1) n
     last_behind n e =
         subst (λ (j : ℕ). Last (entries_of card) j (c - 1) n) here
         (subst (Last (entries_of card) (get_or (entries_of card) (c - 1) no_entry).index (c - 1)) (sym e) (h.holds.behind (c - 1) (omega (arith, o.within, l)) here_kept))
 
-    module _ (n : ℕ) (e : n ≡ get_or cells (entry_cell (c - 1)) 0) where
+    module _ (n : ℕ) (e : n ≡ (get_or kept.entries (c - 1) none_kept).behind) where
       pub chain_less : n < c
       chain_less = omega (arith, (last_behind n e).within, l)
 
-      pub chain_on : OnChain card cells i n
-      chain_on = record { low = o.low; kept = o.kept; few = o.few; within = omega (arith, (last_behind n e).within, o.within); under = (last_behind n e).under }
+      pub chain_on : OnChain card kept i n
+      chain_on = record { low = o.low; is_kept = o.is_kept; few = o.few; within = omega (arith, (last_behind n e).within, o.within); under = (last_behind n e).under }
 
       -- one step
       pub chain_step : (g : Entry → Bool) → some_before g i (entries_of card) c ≡ (g (get_or (entries_of card) (c - 1) no_entry) || some_before g i (entries_of card) n)
@@ -143,24 +141,24 @@ module _ (card cells : List ℕ) (spans : List ℤ) (h : KeepsCard card cells sp
 -- ---- the loop along a chain
 
 -- the walk from c on stands at n, and the entries that it passed over do not count
-pub record Passing (f : Entry → Bool) (card cells : List ℕ) (i c n : ℕ) : Type 0 where
-  pub on : OnChain card cells i n
+pub record Passing (f : Entry → Bool) (card : List ℕ) (kept : Kept) (i c n : ℕ) : Type 0 where
+  pub on : OnChain card kept i n
   pub less : n ≤ c
   pub passed : (g : Entry → Bool) → ((x : Entry) → f x ≡ false → g x ≡ false) → some_before g i (entries_of card) c ≡ some_before g i (entries_of card) n
 
-module _ (f : Entry → Bool) (card cells : List ℕ) (spans : List ℤ) (i c : ℕ) where
-  pub passing_start : OnChain card cells i c → Passing f card cells i c c
+module _ (f : Entry → Bool) (card : List ℕ) (kept : Kept) (i c : ℕ) where
+  pub passing_start : OnChain card kept i c → Passing f card kept i c c
   passing_start o = record { on = o; less = omega arith; passed = λ g d. refl }
 
-  module _ (n : ℕ) (inv : Passing f card cells i c n) where
-    pub passing_holds : KeepsCard card cells spans → 0 < n → Holds card cells spans (n - 1) (get_or (entries_of card) (n - 1) no_entry)
-    passing_holds h l = chain_holds card cells spans h i n inv.on l
+  module _ (n : ℕ) (inv : Passing f card kept i c n) where
+    pub passing_holds : KeepsCard card kept → 0 < n → Holds card (get_or kept.entries (n - 1) none_kept) (get_or (entries_of card) (n - 1) no_entry)
+    passing_holds h l = chain_holds card kept h i n inv.on l
 
     pub passing_room : 0 < n → n - 1 < 64
     passing_room l = omega (arith, inv.on.within, inv.on.few, l)
 
     module _ (r : Bool) (y : r ≡ f (get_or (entries_of card) (n - 1) no_entry)) where
-      pub passing_found : 0 < n → r ≡ true → FirstFrom f card cells i c n
+      pub passing_found : 0 < n → r ≡ true → FirstFrom f card kept i c n
       passing_found l t =
           record {
             on = inv.on;
@@ -169,25 +167,25 @@ module _ (f : Entry → Bool) (card cells : List ℕ) (spans : List ℤ) (i c : 
             passed = inv.passed;
           }
 
-      module _ (h : KeepsCard card cells spans) (l : 0 < n) (m : ℕ) (e : m ≡ get_or cells (entry_cell (n - 1)) 0) where
+      module _ (h : KeepsCard card kept) (l : 0 < n) (m : ℕ) (e : m ≡ (get_or kept.entries (n - 1) none_kept).behind) where
         pub passing_less : m < n
-        passing_less = chain_less card cells spans h i n inv.on l m e
+        passing_less = chain_less card kept h i n inv.on l m e
 
-        pub passing_next : r ≡ false → Passing f card cells i c m
+        pub passing_next : r ≡ false → Passing f card kept i c m
         passing_next t =
             record {
-              on = chain_on card cells spans h i n inv.on l m e;
+              on = chain_on card kept h i n inv.on l m e;
               less = omega (arith, inv.less, passing_less);
               passed = λ g d.
-                  inv.passed g d ∙ chain_step card cells spans h i n inv.on l m e g
+                  inv.passed g d ∙ chain_step card kept h i n inv.on l m e g
                   ∙ ap (λ (b : Bool). b || some_before g i (entries_of card) m) (d (get_or (entries_of card) (n - 1) no_entry) (sym y ∙ t));
             }
 
-    pub passing_end : n ≤ 0 → FirstFrom f card cells i c 0
+    pub passing_end : n ≤ 0 → FirstFrom f card kept i c 0
     passing_end l =
         let z : n ≡ 0 = omega (arith, l) in
         record {
-          on = subst (OnChain card cells i) z inv.on;
+          on = subst (OnChain card kept i) z inv.on;
           less = omega arith;
           counts = λ e k. absurd (omega (arith, k));
           passed = λ g d. inv.passed g d ∙ ap (some_before g i (entries_of card)) z;
@@ -195,10 +193,10 @@ module _ (f : Entry → Bool) (card cells : List ℕ) (spans : List ℤ) (i c : 
 
 -- ---- whether some text counts
 
-module _ (card cells : List ℕ) (spans : List ℤ) (h : KeepsCard card cells spans) (i : ℕ) (l : i < 32) (k : IsKept cells i) (c : Chosen) (m : Meaning) (v : List ℕ) (from r : ℕ) (e : from ≡ get_or cells i 0)
-    (first : FirstFrom (entry_counts c m v) card cells i from r) where
+module _ (card : List ℕ) (kept : Kept) (h : KeepsCard card kept) (i : ℕ) (l : i < 32) (k : IsKept kept i) (c : Chosen) (m : Meaning) (v : List ℕ) (from r : ℕ) (e : from ≡ get_or kept.last i 0)
+    (first : FirstFrom (entry_counts c m v) card kept i from r) where
   by_first_lem : (g : Entry → Bool) → ((x : Entry) → entry_counts c m v x ≡ false → g x ≡ false) → some_before g i (entries_of card) (length (entries_of card)) ≡ some_before g i (entries_of card) r
-  by_first_lem g d = chain_all card cells spans h i g from l k e ∙ first.passed g d
+  by_first_lem g d = chain_all card kept h i g from l k e ∙ first.passed g d
 
   found : (n : ℕ) → r ≡ n → some_before (entry_counts c m v) i (entries_of card) r ≡ ltb 0 r
   unfolding some_before
@@ -213,17 +211,14 @@ module _ (card cells : List ℕ) (spans : List ℤ) (h : KeepsCard card cells sp
 
 -- ---- one entry
 
-module _ (card cells : List ℕ) (spans : List ℤ) (e : ℕ) (x : Entry) (h : Holds card cells spans e x) where
-  pub holds_order : get_or cells (entry_cell e + 2) 0 ≤ get_or cells (entry_cell e + 3) 0
-  holds_order = h.order
+module _ (card : List ℕ) (o : KeptEntry) (x : Entry) (h : Holds card o x) where
+  pub holds_serves : (r : TextReading) (start end : ℕ) → start ≡ o.start → end ≡ o.end → r ≡ o.reading → Serves (part card start end) r
+  holds_serves r start end a b k = rw (a, b, k) (subst (λ (t : List ℕ). Serves t o.reading) h.text h.serves)
 
-  pub holds_within : get_or cells (entry_cell e + 3) 0 ≤ length card
-  holds_within = h.within
+  pub holds_order : (start end : ℕ) → start ≡ o.start → end ≡ o.end → (start ≤ end) × (end ≤ length card)
+  holds_order start end a b = (omega (arith, a, b, h.order), omega (arith, b, h.within))
 
-  pub holds_serves : (r : TextReading) (start end : ℕ) → start ≡ get_or cells (entry_cell e + 2) 0 → end ≡ get_or cells (entry_cell e + 3) 0 → r ≡ reading_at cells spans e → Serves (part card start end) r
-  holds_serves r start end a b k = rw (a, b, k) (subst (λ (t : List ℕ). Serves t (reading_at cells spans e)) h.text h.serves)
-
-  module _ (c : Chosen) (m : Meaning) (v : List ℕ) (w : Readings) (k : w ≡ readings_for m v) (r : Bool) (g : r ≡ counts c (get_or cells (entry_cell e + 1) 0)) where
+  module _ (c : Chosen) (m : Meaning) (v : List ℕ) (w : Readings) (k : w ≡ readings_for m v) (r : Bool) (g : r ≡ counts c o.occurrence) where
     own : r ≡ counts c x.occurrence
     own = g ∙ ap (counts c) h.occurrence
 
@@ -231,13 +226,16 @@ module _ (card cells : List ℕ) (spans : List ℤ) (e : ℕ) (x : Entry) (h : H
     unfolding entry_counts
     entry_not n = rw (sym own ∙ n)
 
-    pub entry_text : r ≡ true → (t : Bool) (start end : ℕ) → start ≡ get_or cells (entry_cell e + 2) 0 → end ≡ get_or cells (entry_cell e + 3) 0 → (b : List ℕ) → b ≡ card → t ≡ counts_read m v w (part b start end) → t ≡ entry_counts c m v x
+    pub entry_text : r ≡ true → (t : Bool) (start end : ℕ) → start ≡ o.start → end ≡ o.end → (b : List ℕ) → b ≡ card → t ≡ counts_read m v w (part b start end) → t ≡ entry_counts c m v x
     unfolding entry_counts
     entry_text y t start end a b card_bytes same d =
-        let same_text : part card start end ≡ part card (get_or cells (entry_cell e + 2) 0) (get_or cells (entry_cell e + 3) 0) = rw (a, b) in
+        let same_text : part card start end ≡ part card o.start o.end = rw (a, b) in
         rw (sym own ∙ y)
         (once_counts m v w k (part card start end) t (d ∙ ap (λ (k : List ℕ). counts_read m v w (part k start end)) same) ∙ ap (text_counts m v) (same_text ∙ sym h.text))
 
--- the cell of a parameter
-pub cell_is : (cells : List ℕ) (i j n : ℕ) → j ≡ i → n ≡ get_or cells j 0 → n ≡ get_or cells i 0
-cell_is cells i j n same e = e ∙ ap (λ (k : ℕ). get_or cells k 0) same
+-- what is kept of a parameter
+pub head_is : (kept : Kept) (i j n : ℕ) → j ≡ i → n ≡ get_or kept.last j 0 → n ≡ get_or kept.last i 0
+head_is kept i j n same e = e ∙ ap (λ (k : ℕ). get_or kept.last k 0) same
+
+pub kind_is : (kept : Kept) (i j n : ℕ) → j ≡ i → n ≡ get_or kept.kinds j 0 → n ≡ get_or kept.kinds i 0
+kind_is kept i j n same e = e ∙ ap (λ (k : ℕ). get_or kept.kinds k 0) same

@@ -1,12 +1,10 @@
 -- What a text was read to stands for the text in a relation.
 -- Assumes nothing.
 use Rattle.std.specs.Prelude.{Option, Some, None}
-use Prim.Native.Nat.{ℕ, ◌%◌, ◌/◌}
+use Prim.Native.Nat.{ℕ}
 use mathlib.Core.Path.{◌≡◌, refl, ap, sym, subst, ◌∙◌}
 use mathlib.Core.Bool.{Bool, true, false}
 use mathlib.Core.List.{List}
-use lib.Dec.{eqb}
-use lib.IntN.{ℤ}
 use Rattle.number.specs.Reading as numbers
 use Rattle.number.specs.Value.{Bounded}
 use Rattle.number.specs.declared.Decimal.{Decimal}
@@ -19,20 +17,8 @@ use Rattle.kind.specs.declared.NumberRelation.{NumberRelation}
 use Rattle.kind.specs.declared.DateRelation.{DateRelation}
 use Rattle.kind.specs.declared.Relation.{Relation}
 use Rattle.kind.specs.declared.Readings.{Readings}
-use Rattle.card_reader.specs.Readings.{end_from, period_from, Serves, serves_number, serves_span}
+use Rattle.card_reader.specs.Readings.{Serves, serves_number, serves_span}
 use Rattle.card_reader.specs.declared.TextReading.{TextReading}
-
-pub end_open : (m : Bool) (t : ℤ) → m ≡ true → None ≡ end_from m t
-unfolding end_from
-end_open m t h = rw h
-
-pub end_known : (m : Bool) (t s : ℤ) → m ≡ false → s ≡ t → Some s ≡ end_from m t
-unfolding end_from
-end_known m t s h e = rw (h, e)
-
-pub period_is : (u : ℕ) (a b c d : ℤ) (s t : Option ℤ) → s ≡ end_from (eqb (u % 2) 1) c → t ≡ end_from (eqb (u / 2) 1) d → c ≡ a → d ≡ b → periods.period s t ≡ period_from u a b
-unfolding period_from
-period_is u a b c d s t e f g h = rw (e, f, g, h)
 
 module _ (relation : NumberRelation) (i : Decimal) (v : Option Decimal) where
   pub number_none : v ≡ None → false ≡ number_readings_relate relation (Some i) v

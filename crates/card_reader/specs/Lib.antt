@@ -1,4 +1,4 @@
--- What the texts of a card read to, and the lists that have it.
+-- What the texts of a card read to, and what is kept of it.
 pub mod Readings
 pub mod Lists
 pub mod Storing

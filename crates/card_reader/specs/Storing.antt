@@ -1,56 +1,46 @@
--- What one store of each list makes of it.
+-- What one store makes of what is kept.
 -- Assumes nothing.
-use Rattle.std.specs.Prelude.{ℕ, ◌+◌, ◌*◌, ◌≤◌, ◌<◌, ◌≡◌, Bool, true, List, ℤ, length, get_or, set}
+use Rattle.std.specs.Prelude.{ℕ, ◌+◌, ◌≤◌, ◌<◌, ◌≡◌, Bool, true, false, List, length, get_or, set}
 use Rattle.base.specs.Parts.{part}
 use Rattle.block.specs.Walking.{made}
 use Rattle.card.specs.Card.{Entry, entry}
 use Rattle.block.specs.declared.walker.Item.{Item}
 use Rattle.kind.specs.Readable.{card_readable}
-use Rattle.card_reader.specs.Lists.{Lent, entry_cell, no_entry, IsKept, HoldsTo, BeginsAlike}
-use Rattle.card_reader.specs.declared.Packed.{Packed}
+use Rattle.card_reader.specs.Readings.{Serves}
+use Rattle.card_reader.specs.Lists.{Lent, no_entry, IsKept, HoldsTo, BeginsAlike}
+use Rattle.card_reader.specs.declared.Kept.{Kept}
+use Rattle.card_reader.specs.declared.KeptEntry.{KeptEntry}
+use Rattle.card_reader.specs.declared.TextReading.{TextReading}
 
-pub record Put {A : Type 0} (n : ℕ) (l : List A) (at : ℕ) (v : A) (l' : List A) : Type 0 where
-  pub is : l' ≡ set l at v
-  pub size : length l' ≡ n
+-- what is kept of an item before b, with what its text reads to
+abbrev pub kept_of : ℕ → Item → TextReading → KeptEntry
+kept_of b x h = record { behind = b; occurrence = x.mark; start = x.start; end = x.start + length x.text.now; reading = h }
 
--- the entry e is put before the others under the parameter i
-pub record Linked (l : List ℕ) (i e : ℕ) (l' : List ℕ) : Type 0 where
-  pub is : l' ≡ set (set l (entry_cell e) (get_or l i 0)) i (e + 1)
-  pub size : length l' ≡ 608
+-- an item is kept as the entry e, before the others under its parameter
+pub record Stored (e : ℕ) (x : Item) (h : TextReading) (before after : Kept) : Type 0 where
+  pub kinds_are : after.kinds ≡ before.kinds
+  pub asked_are : after.asked ≡ before.asked
+  pub last_is : after.last ≡ set before.last x.tag (e + 1)
+  pub entries_are : after.entries ≡ set before.entries e (kept_of (get_or before.last x.tag 0) x h)
 
-pub record Placed (l : List ℕ) (e o s t : ℕ) (l' : List ℕ) : Type 0 where
-  pub is : l' ≡ set (set (set l (entry_cell e + 1) o) (entry_cell e + 2) s) (entry_cell e + 3) t
-  pub size : length l' ≡ 608
+-- no parameter has an entry, and all else is as it was
+pub record Begun (before after : Kept) : Type 0 where
+  pub kinds_are : after.kinds ≡ before.kinds
+  pub asked_are : after.asked ≡ before.asked
+  pub entries_are : after.entries ≡ before.entries
+  pub last_size : length after.last ≡ 32
+  pub front : (i : ℕ) → i < 32 → get_or after.last i 0 ≡ 0
 
-pub record Valued (l : List ℕ) (e f v u : ℕ) (l' : List ℕ) : Type 0 where
-  pub is : l' ≡ set (set (set l (entry_cell e + 4) f) (entry_cell e + 5) v) (entry_cell e + 6) u
-  pub size : length l' ≡ 608
+-- an item whose text is readable as a kind is kept as the entry e with what it reads to; of any other nothing is
+pub record TakesAs (kind e : ℕ) (x : Item) (before after : Kept) (r : Bool) : Type 0 where
+  pub answer : r ≡ card_readable kind x.text.now
+  pub stored : r ≡ true → (h : TextReading) × (Serves x.text.now h × Stored e x h before after)
+  pub stays : r ≡ false → after ≡ before
 
-pub record Spanned (l : List ℤ) (e : ℕ) (a b : ℤ) (l' : List ℤ) : Type 0 where
-  pub is : l' ≡ set (set l (2 * e) a) (2 * e + 1) b
-  pub size : length l' ≡ 128
-
--- all of one entry
-pub record Stored (e : ℕ) (x : Item) (h : Packed) (cells : List ℕ) (spans : List ℤ) (cells' : List ℕ) (spans' : List ℤ) : Type 0 where
-  pub first : List ℕ
-  pub second : List ℕ
-  pub linked : Linked cells x.tag e first
-  pub placed : Placed first e x.mark x.start (x.start + length x.text.now) second
-  pub valued : Valued second e h.form h.value h.unit cells'
-  pub spanned : Spanned spans e h.start h.end spans'
-
--- the first n parameters' cells are those with which a card begins, and all cells behind the parameters' are as they were
-pub record Begun (l l' : List ℕ) (n : ℕ) : Type 0 where
-  pub long : length l ≡ 608
-  pub size : length l' ≡ 608
-  pub front : (i : ℕ) → i < n → get_or l' i 0 ≡ get_or l (544 + i) 0
-  pub others : (j : ℕ) → 32 ≤ j → get_or l' j 0 ≡ get_or l j 0
-
--- the text of an entry is read, and where it is readable the lists have one entry more
-pub record Takes (kinds : List ℕ) (e : ℕ) (x : Item) (cells : List ℕ) (spans : List ℤ) (cells' : List ℕ) (spans' : List ℤ) (r : Bool) : Type 0 where
+-- the text of an entry is read, and where it is readable one entry more is kept
+pub record Takes (kinds : List ℕ) (e : ℕ) (x : Item) (before after : Kept) (r : Bool) : Type 0 where
   pub answer : r ≡ card_readable (get_or kinds x.tag 0) x.text.now
-  pub lent : Lent cells' spans'
-  pub begins : BeginsAlike cells cells'
-  pub keeps : (i : ℕ) → i < 32 → IsKept cells i → IsKept cells' i
-  pub adds : r ≡ true → (card : List ℕ) (es : List Entry) → HoldsTo card es cells spans e → get_or es e no_entry ≡ made entry x
-      → x.text.now ≡ part card x.start (x.start + length x.text.now) → x.start + length x.text.now ≤ length card → HoldsTo card es cells' spans' (e + 1)
+  pub lent : Lent after
+  pub begins : BeginsAlike before after
+  pub adds : r ≡ true → (card : List ℕ) (es : List Entry) → HoldsTo card es before e → get_or es e no_entry ≡ made entry x
+      → x.text.now ≡ part card x.start (x.start + length x.text.now) → x.start + length x.text.now ≤ length card → HoldsTo card es after (e + 1)

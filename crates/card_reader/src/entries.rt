@@ -1,54 +1,114 @@
 // One pass over a card's entries.
 ghost use Rattle.std.specs.Prelude.{◌≡◌, ◌+◌, ◌<◌, ◌≤◌, length};
+ghost use Rattle.base.specs.Kinds.{number, date, period};
 ghost use Rattle.card_reader.specs.Lists.{Lent, ReadsCard};
-ghost use Rattle.card_reader.specs.Storing.{Begun, Takes};
+ghost use Rattle.card_reader.specs.Storing.{Begun, TakesAs, Takes};
 
-use crate::readings::text_reading;
 use crate::store::store_entry;
+use crate::{Kept, TextReading};
+use base::kind::Kind;
 use block::Item;
 use card::Card;
 
-// Brings the parameters' cells to where a card begins.
-fn begin(cells: &mut [u64])
-    requires { length cells.old ≡ 608 }
-    ensures { Begun cells.old cells.new 32 }
+// Has no entry of a card.
+fn begin(kept: &mut Kept)
+    requires { Lent kept.old }
+    ensures { Begun kept.old kept.new }
 {
-    for i in 0..32 {
-        cells[i] = cells[544 + i];
+    kept.last = [0; 32];
+}
+
+// Keeps an entry whose text is a number.
+fn take_number(kept: &mut Kept, e: usize, item: Item<'_>) -> bool
+    requires lent { Lent kept.old }
+    requires tag_bound { item.tag < 32 }
+    requires end_bound { item.start + length item.text.now ≤ 508 }
+    requires e_bound { e < 64 }
+    ensures { TakesAs number e item.entry kept.old kept.new result }
+{
+    let Some(n) = number::read(item.text) else {
+        return false;
+    };
+    store_entry(kept, e, item, TextReading::Number(n));
+    true
+}
+
+// Keeps an entry whose text is a date.
+fn take_date(kept: &mut Kept, e: usize, item: Item<'_>) -> bool
+    requires lent { Lent kept.old }
+    requires tag_bound { item.tag < 32 }
+    requires end_bound { item.start + length item.text.now ≤ 508 }
+    requires e_bound { e < 64 }
+    ensures { TakesAs date e item.entry kept.old kept.new result }
+{
+    let Some(d) = date::read(item.text) else {
+        return false;
+    };
+    store_entry(kept, e, item, TextReading::Span(period::known(d)));
+    true
+}
+
+// Keeps an entry whose text is a period.
+fn take_period(kept: &mut Kept, e: usize, item: Item<'_>) -> bool
+    requires lent { Lent kept.old }
+    requires tag_bound { item.tag < 32 }
+    requires end_bound { item.start + length item.text.now ≤ 508 }
+    requires e_bound { e < 64 }
+    ensures { TakesAs period e item.entry kept.old kept.new result }
+{
+    let Some(p) = period::read(item.text) else {
+        return false;
+    };
+    store_entry(kept, e, item, TextReading::Span(p));
+    true
+}
+
+// Keeps an entry by the bytes of its text, which is of any kind.
+fn take_bytes(kind: u8, kept: &mut Kept, e: usize, item: Item<'_>) -> bool
+    requires lent { Lent kept.old }
+    requires tag_bound { item.tag < 32 }
+    requires end_bound { item.start + length item.text.now ≤ 508 }
+    requires e_bound { e < 64 }
+    ensures { TakesAs kind e item.entry kept.old kept.new result }
+{
+    if !kind::card_readable(kind, item.text) {
+        return false;
     }
+    store_entry(kept, e, item, TextReading::Bytes);
+    true
 }
 
 // Whether the text of an entry is readable as its parameter's kind; where it is, keeps it as the entry e, if entries of the parameter are kept.
-fn take_entry(kinds: &[u8; 32], cells: &mut [u64], spans: &mut [i64], e: usize, item: Item<'_>) -> bool
-    requires lent { Lent cells.old spans.old }
+fn take_entry(kinds: &[u8; 32], kept: &mut Kept, e: usize, item: Item<'_>) -> bool
+    requires lent { Lent kept.old }
     requires e_bound { e < 64 }
-    requires mark_bound { item.mark < 256 }
     requires end_bound { item.start + length item.text.now ≤ 508 }
-    ensures { Takes kinds.now e item.entry cells.old spans.old cells.new spans.new result }
+    ensures { Takes kinds.now e item.entry kept.old kept.new result }
 {
     let i = usize::from(item.tag);
     if i >= 32 {
         return false;
     }
     let kind = kinds[i];
-    if cells[i] > 64 {
+    if !kept.asked[i] {
         return kind::card_readable(kind, item.text);
     }
-    let Some(read) = text_reading(kind, item.text) else {
-        return false;
-    };
-    store_entry(cells, spans, e, item, read);
-    true
+    match Kind::of(kind) {
+        Some(Kind::Number) => take_number(kept, e, item),
+        Some(Kind::Date) => take_date(kept, e, item),
+        Some(Kind::Period) => take_period(kept, e, item),
+        _ => take_bytes(kind, kept, e, item),
+    }
 }
 
-// Whether a well-formed card conforms to a sheet with these kinds; where it does, the lists have what is kept of its entries.
-pub fn read_entries(kinds: &[u8; 32], card: &Card<'_>, cells: &mut [u64], spans: &mut [i64]) -> bool
-    requires lent { Lent cells.old spans.old }
-    ensures { ReadsCard kinds.now card.now cells.old cells.new spans.new result }
+// Whether a well-formed card conforms to a sheet with these kinds; where it does, its entries are kept.
+pub fn read_entries(kinds: &[u8; 32], card: &Card<'_>, kept: &mut Kept) -> bool
+    requires lent { Lent kept.old }
+    ensures { ReadsCard kinds.now card.now kept.old kept.new result }
 {
-    begin(cells);
+    begin(kept);
     for (e, item) in card.entries().enumerate() {
-        if !take_entry(kinds, cells, spans, e, item) {
+        if !take_entry(kinds, kept, e, item) {
             return false;
         }
     }

@@ -1,45 +1,43 @@
-// The lists as they are lent for a run.
-ghost use Rattle.std.specs.Prelude.{◌≡◌, ◌<◌, ◌≤◌, length, get_or};
-ghost use Rattle.card_reader.specs.Lists.{Lent, kinds_in};
-ghost use Rattle.card_reader.specs.Lending.{Prepares, Lends, Keeps};
+// What is kept, as it is lent for a run.
+ghost use Rattle.std.specs.Prelude.{◌≡◌, ◌<◌, length, get_or};
+ghost use Rattle.card_reader.specs.Lists.{Lent};
+ghost use Rattle.card_reader.specs.Lending.{Lends, Keeps};
 
-use crate::store::put;
+use crate::{Kept, KeptEntry, TextReading};
 
-// Has nothing kept of a parameter, and notes its kind.
-fn prepare(cells: &mut [u64], i: usize, kind: u8)
-    requires cells_len { length cells.old ≡ 608 }
-    requires i_bound { i < 32 }
-    ensures { Prepares i kind cells.old cells.new }
+// For a run over cards of a sheet with these kinds: nothing is kept of any entry.
+pub fn lend(kinds: &[u8; 32]) -> Kept
+    ensures { Lends kinds.now result }
 {
-    put(cells, 544 + i, 65);
-    put(cells, 576 + i, u64::from(kind));
-}
-
-// Prepares the lists for a run: nothing is kept, and the kinds are those of the sheet.
-pub fn lend(kinds: &[u8; 32], cells: &mut [u64], spans: &[i64])
-    requires cells_len { length cells.old ≡ 608 }
-    requires spans_len { length spans.now ≡ 128 }
-    ensures { Lends kinds.now cells.new spans.now }
-{
-    for (i, &kind) in kinds.iter().enumerate() {
-        prepare(cells, i, kind);
+    let none = KeptEntry {
+        behind: 0,
+        occurrence: 0,
+        start: 0,
+        end: 0,
+        reading: TextReading::Bytes,
+    };
+    Kept {
+        kinds: *kinds,
+        asked: [false; 32],
+        last: [0; 32],
+        entries: [none; 64],
     }
 }
 
 // Has the entries of a parameter kept from the next card on.
-pub fn keep(cells: &mut [u64], spans: &[i64], index: u8)
-    requires lent { Lent cells.old spans.now }
+pub fn keep(kept: &mut Kept, index: u8)
+    requires lent { Lent kept.old }
     requires index_bound { index < 32 }
-    ensures { Keeps index cells.old cells.new spans.now }
+    ensures { Keeps index kept.old kept.new }
 {
-    put(cells, 544 + usize::from(index), 0);
+    kept.asked[usize::from(index)] = true;
 }
 
 // The kind of a parameter.
-pub fn kind_at(cells: &[u64], spans: &[i64], index: u8) -> u8
-    requires lent { Lent cells.now spans.now }
+pub fn kind_at(kept: &Kept, index: u8) -> u8
+    requires lent { Lent kept.now }
     requires index_bound { index < 32 }
-    ensures { result ≡ get_or (kinds_in cells.now) index 0 }
+    ensures { result ≡ get_or kept.now.kinds index 0 }
 {
-    cells[576 + usize::from(index)] as u8
+    kept.kinds[usize::from(index)]
 }

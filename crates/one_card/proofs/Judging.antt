@@ -12,7 +12,6 @@ use mathlib.Core.Path.{◌≡◌, refl, sym, ap, ap₂, subst, ◌∙◌}
 use mathlib.Core.Bool.{Bool, true, false}
 use mathlib.Core.Option.{none, some}
 use mathlib.Core.List.{List}
-use lib.IntN.{ℤ}
 use lib.ListN.{length}
 use Rattle.sheet.specs.Sheet.{Parameter, parameters_of}
 use Rattle.sheet.specs.Find.{kinds_of}
@@ -29,7 +28,8 @@ use Rattle.filter.specs.declared.Spot.{Spot}
 use Rattle.text_judge.specs.declared.Judged.{Judged}
 use Rattle.filter.proofs.Walk.{top-bundle, top_read, was_filter, was_none}
 use Rattle.text_judge.proofs.Judging.{judged_cases, judging_is}
-use Rattle.card_reader.specs.Lists.{kinds_in, Lent, ReadsCard}
+use Rattle.card_reader.specs.Lists.{Lent, ReadsCard}
+use Rattle.card_reader.specs.declared.Kept.{Kept}
 use Rattle.row_opener.specs.Opening.{Opens}
 use Rattle.row_opener.specs.declared.Opened.{Opened}
 use Rattle.row_judge.specs.Saying.{rows_say, Whole, Ready}
@@ -115,22 +115,22 @@ module _ (kinds b : List ℕ) (t : Result (List ℕ) Reason) (e : AcceptsCard ki
 
 -- ---- and what it holds is kept
 
-module _ (kinds b cells : List ℕ) (spans : List ℤ) (l : Lent cells spans) where
+module _ (kinds b : List ℕ) (kept : Kept) (l : Lent kept) where
   -- the bytes are no card
-  pub takes_flawed : (flaw : Flaw) (x : Reason) → read_card b ≡ Err flaw → ((fits : Bool) (c : Card) (i : ℕ) → card_step (Err flaw) fits c i ≡ stop (number_of x) i) → TakesCard kinds b cells cells spans (Err x)
+  pub takes_flawed : (flaw : Flaw) (x : Reason) → read_card b ≡ Err flaw → ((fits : Bool) (c : Card) (i : ℕ) → card_step (Err flaw) fits c i ≡ stop (number_of x) i) → TakesCard kinds b kept kept (Err x)
   takes_flawed flaw x h t =
       record {
         accepts = accepts_flawed kinds b flaw x h t;
         lent = l;
-        begins = record { size = refl; same = λ _ _. refl };
+        begins = record { kinds_are = refl; asked_are = refl };
         keeps = λ c z. absurd (let y : ◌≡◌ {A = ℕ} 0 1 = cc in omega arith);
       }
 
-module _ (kinds b k : List ℕ) (s : k ≡ b) (h : read_card b ≡ (Ok tt)) (before cells : List ℕ) (spans : List ℤ) (o : Bool) (r : ReadsCard kinds k before cells spans o) where
-  w : ReadsCard kinds b before cells spans o
-  w = subst (λ (d : List ℕ). ReadsCard kinds d before cells spans o) s r
+module _ (kinds b k : List ℕ) (s : k ≡ b) (h : read_card b ≡ (Ok tt)) (before kept : Kept) (o : Bool) (r : ReadsCard kinds k before kept o) where
+  w : ReadsCard kinds b before kept o
+  w = subst (λ (d : List ℕ). ReadsCard kinds d before kept o) s r
 
-  pub takes_misfit : o ≡ false → TakesCard kinds b before cells spans (Err Reason.CardMisfit)
+  pub takes_misfit : o ≡ false → TakesCard kinds b before kept (Err Reason.CardMisfit)
   takes_misfit n =
       record {
         accepts = accepts_misfit kinds b o w.answer h n;
@@ -139,21 +139,21 @@ module _ (kinds b k : List ℕ) (s : k ≡ b) (h : read_card b ≡ (Ok tt)) (bef
         keeps = λ c z. absurd (let y : ◌≡◌ {A = ℕ} 0 1 = cc in omega arith);
       }
 
-  pub takes_conforming : o ≡ true → TakesCard kinds b before cells spans (Ok k)
+  pub takes_conforming : o ≡ true → TakesCard kinds b before kept (Ok k)
   takes_conforming y =
-      subst (λ (d : List ℕ). TakesCard kinds b before cells spans (Ok d)) (sym s)
+      subst (λ (d : List ℕ). TakesCard kinds b before kept (Ok d)) (sym s)
       (record { accepts = accepts_conforming kinds b o w.answer h y; lent = w.lent; begins = w.begins; keeps = λ _ _. w.keeps y })
 
-module _ (kinds xs rows b before cells : List ℕ) (spans₀ spans : List ℤ) (t : Result (List ℕ) Reason) (l : LentFor kinds rows before spans₀) (w : TakesCard kinds b before cells spans t) where
-  -- the lists stay lent for the rows
-  pub taken-lent : LentFor kinds rows cells spans
-  taken-lent = lent-on kinds rows before cells spans₀ spans l w.lent w.begins
+module _ (kinds xs rows b : List ℕ) (before kept : Kept) (t : Result (List ℕ) Reason) (l : LentFor kinds rows before) (w : TakesCard kinds b before kept t) where
+  -- it stays lent for the rows
+  pub taken-lent : LentFor kinds rows kept
+  taken-lent = lent-on kinds rows before kept l w.lent w.begins
 
   -- rows that were opened are ready for the card
-  pub taken-ready : (values : List (Option Opened)) → length xs ≤ 1024 → Whole rows → Opens kinds xs rows values (length rows) → (c : List ℕ) → t ≡ Ok c → Ready xs rows values c cells spans
-  taken-ready values h e o c k = subst (λ (d : List ℕ). Ready xs rows values d cells spans) (sym (w.accepts.same c k)) (lent-ready kinds xs rows b cells spans taken-lent values h e o (w.keeps c k))
+  pub taken-ready : (values : List (Option Opened)) → length xs ≤ 1024 → Whole rows → Opens kinds xs rows values (length rows) → (c : List ℕ) → t ≡ Ok c → Ready xs rows values c kept
+  taken-ready values h e o c k = subst (λ (d : List ℕ). Ready xs rows values d kept) (sym (w.accepts.same c k)) (lent-ready kinds xs rows b kept taken-lent values h e o (w.keeps c k))
 
-  pub taken-says : (v : Bool) (c : List ℕ) → t ≡ Ok c → v ≡ rows_say (kinds_in cells) xs (chosen_of every (entries_of c)) rows
+  pub taken-says : (v : Bool) (c : List ℕ) → t ≡ Ok c → v ≡ rows_say kept.kinds xs (chosen_of every (entries_of c)) rows
       → (ps : List Parameter) → kinds ≡ kinds_of ps → (i : ℕ) → found v ≡ card_verdict (cells_question ps xs rows) i b
   taken-says v c h s = rows_says kinds b t w.accepts xs rows v c h (s ∙ ap (λ (k : List ℕ). rows_say k xs (chosen_of every (entries_of c)) rows) taken-lent.kinds_are)
 

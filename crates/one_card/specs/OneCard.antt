@@ -1,10 +1,11 @@
 -- One card under a sheet: what the cases of the code's answers state of it, and what rows ask of it.
 -- Assumes nothing.
-use Rattle.std.specs.Prelude.{ℕ, ◌≡◌, Bool, List, ℤ, Err, Ok, Result}
+use Rattle.std.specs.Prelude.{ℕ, ◌≡◌, Bool, List, Err, Ok, Result}
 use Rattle.sheet.specs.Sheet.{Parameter}
 use Rattle.sheet.specs.Find.{kinds_of}
 use Rattle.card.specs.Card.{record_number, entries_of, read_card}
 use Rattle.card_reader.specs.Lists.{Lent, KeepsCard, BeginsAlike}
+use Rattle.card_reader.specs.declared.Kept.{Kept}
 use Rattle.row_judge.specs.Saying.{rows_say}
 use Rattle.refusal.specs.Answers.{Answer, yes_or_no, number_of}
 use Rattle.refusal.specs.Steps.{Step, found, stop, ◌>>=◌, answer}
@@ -24,12 +25,12 @@ pub record AcceptsCard (kinds card : List ℕ) (r : Result (List ℕ) Reason) : 
   pub well_formed : (b : List ℕ) → r ≡ Ok b → read_card card ≡ (Ok tt)
   pub steps : (ps : List Parameter) → kinds ≡ kinds_of ps → (i : ℕ) → acceptance_step r i ≡ accept_card ps i card
 
--- the same, with what is kept of a card that is accepted in lists that were lent
-pub record TakesCard (kinds card before cells : List ℕ) (spans : List ℤ) (r : Result (List ℕ) Reason) : Type 0 where
+-- the same, with what is kept of a card that is accepted
+pub record TakesCard (kinds card : List ℕ) (before kept : Kept) (r : Result (List ℕ) Reason) : Type 0 where
   pub accepts : AcceptsCard kinds card r
-  pub lent : Lent cells spans
-  pub begins : BeginsAlike before cells
-  pub keeps : (b : List ℕ) → r ≡ Ok b → KeepsCard card cells spans
+  pub lent : Lent kept
+  pub begins : BeginsAlike before kept
+  pub keeps : (b : List ℕ) → r ≡ Ok b → KeepsCard card kept
 
 -- ---- and judged
 

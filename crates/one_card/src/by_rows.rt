@@ -12,25 +12,20 @@ ghost use Rattle.one_card.specs.OneCard.{cells_question, TakesCard};
 
 use crate::card_reason;
 use card::Card;
-use card_reader::read_entries;
+use card_reader::{Kept, read_entries};
 use judge::Chosen;
 use refusal::Reason;
 use row_judge::{lend_for, rows_say};
 use row_opener::{Opened, open_rows};
 
 // Reads a card as accept_card does, and keeps what its entries read to; `kinds` are those of the sheet.
-fn take_card<'a>(
-    kinds: &[u8; 32],
-    bytes: &'a [u8],
-    cells: &mut [u64],
-    spans: &mut [i64],
-) -> Result<Card<'a>, Reason>
-    requires lent { Lent cells.old spans.old }
-    ensures { TakesCard kinds.now bytes.now cells.old cells.new spans.new result }
+fn take_card<'a>(kinds: &[u8; 32], bytes: &'a [u8], kept: &mut Kept) -> Result<Card<'a>, Reason>
+    requires { Lent kept.old }
+    ensures { TakesCard kinds.now bytes.now kept.old kept.new result }
 {
     match Card::read(bytes) {
         Ok(card) => {
-            if read_entries(kinds, &card, cells, spans) {
+            if read_entries(kinds, &card, kept) {
                 return Ok(card);
             }
             Err(Reason::CardMisfit)
@@ -39,29 +34,28 @@ fn take_card<'a>(
     }
 }
 
-// The verdict of rows that were opened on a card, or why the card is refused; `kinds` are those of the sheet, and the lists are lent for the rows.
+// The verdict of rows that were opened on a card, or why the card is refused; `kinds` are those of the sheet, and what is kept is lent for the rows.
 pub fn judge_by_rows(
     kinds: &[u8; 32],
     filter: &[u8],
     rows: &[u32],
     values: &[Option<Opened>],
     card: &[u8],
-    cells: &mut [u64],
-    spans: &mut [i64],
+    kept: &mut Kept,
 ) -> Result<bool, Reason>
     requires filter_len_bound { length filter.now ≤ 1024 }
     requires whole { Whole rows.now }
     requires opens { Opens kinds.now filter.now rows.now values.now (length rows.now) }
-    requires lent_for { LentFor kinds.now rows.now cells.old spans.old }
+    requires lent_for { LentFor kinds.now rows.now kept.old }
     ensures i_value { (ps : List Parameter) → kinds.now ≡ kinds_of ps → (i : ℕ) → verdict_step result i ≡ card_verdict (cells_question ps filter.now rows.now) i card.now }
-    ensures lent_for_2 { LentFor kinds.now rows.now cells.new spans.new }
+    ensures lent_for_2 { LentFor kinds.now rows.now kept.new }
 {
-    let card = take_card(kinds, card, cells, spans)?;
+    let card = take_card(kinds, card, kept)?;
     let every: Chosen = None;
-    Ok(rows_say(filter, rows, values, &card, cells, spans, every))
+    Ok(rows_say(filter, rows, values, &card, kept, every))
 }
 
-// The same of one card alone: the lists are lent for it.
+// The same of one card alone: what is kept is lent for it.
 fn judge_opened(
     kinds: &[u8; 32],
     filter: &[u8],
@@ -74,10 +68,8 @@ fn judge_opened(
     requires opens { Opens kinds.now filter.now rows.now values.now (length rows.now) }
     ensures { (ps : List Parameter) → kinds.now ≡ kinds_of ps → (i : ℕ) → verdict_step result i ≡ card_verdict (cells_question ps filter.now rows.now) i card.now }
 {
-    let mut cells = [0u64; 608];
-    let mut spans = [0i64; 128];
-    lend_for(kinds, rows, &mut cells, &spans);
-    judge_by_rows(kinds, filter, rows, values, card, &mut cells, &mut spans)
+    let mut kept = lend_for(kinds, rows);
+    judge_by_rows(kinds, filter, rows, values, card, &mut kept)
 }
 
 // The same of a few rows that are opened for this card alone: their lists take less time to clear.

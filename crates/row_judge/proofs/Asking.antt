@@ -7,76 +7,74 @@ use mathlib.Core.Path.{◌≡◌, refl, ap, sym, ◌∙◌, subst}
 use mathlib.Core.Bool.{Bool, true, false}
 use mathlib.Core.List.{List}
 use lib.Dec.{eqb}
-use lib.IntN.{ℤ}
 use lib.ListN.{length, get_or}
 use borrow.Author.Tests.{eqb-true, eqb-false}
 use Rattle.rows.specs.Cells.{row_of}
 use Rattle.rows.specs.declared.Probe.{Probe}
 use Rattle.rows.specs.declared.Row.{Row}
-use Rattle.rows.proofs.Cells.{test_index}
 use Rattle.card.specs.Card.{entries_of, read_card}
 use Rattle.judge.specs.Sets.{Chosen, chosen_of, conforms_to}
-use Rattle.card_reader.specs.Lists.{Lent, kinds_in, KeepsCard, BeginsAlike, ReadsCard}
+use Rattle.card_reader.specs.Lists.{Lent, IsKept, KeepsCard, BeginsAlike, ReadsCard}
+use Rattle.card_reader.specs.declared.Kept.{Kept}
 use Rattle.card_reader.specs.Lending.{Lends, Keeps}
-use Rattle.card_reader.proofs.Lends.{kinds-alike}
 use Rattle.row_opener.specs.Opening.{Opens}
 use Rattle.row_opener.specs.declared.Opened.{Opened}
 use Rattle.row_judge.specs.Saying.{rows_say, Whole, Ready}
 use Rattle.row_judge.specs.Asking.{KeepsTests, LentFor}
 
-pub record KeptTo (rows before cells : List ℕ) (spans : List ℤ) (i : ℕ) : Type 0 where
-  pub lent : Lent cells spans
-  pub kinds_are : kinds_in cells ≡ kinds_in before
-  pub each : (j : ℕ) → j < i → (p : Probe) → row_of (get_or rows j 0) ≡ Row.Test p → get_or cells (544 + p.index) 0 ≡ 0
+pub record KeptTo (rows : List ℕ) (before kept : Kept) (i : ℕ) : Type 0 where
+  pub lent : Lent kept
+  pub kinds_are : kept.kinds ≡ before.kinds
+  pub each : (j : ℕ) → j < i → (p : Probe) → row_of (get_or rows j 0) ≡ Row.Test p → IsKept kept p.index
 
-module _ (rows before : List ℕ) (spans : List ℤ) where
-  pub kept_start : Lent before spans → KeptTo rows before before spans 0
+module _ (rows : List ℕ) (before : Kept) where
+  pub kept_start : Lent before → KeptTo rows before before 0
   kept_start w = record { lent = w; kinds_are = refl; each = λ j z. absurd (omega (arith, z)) }
 
-  module _ (cells : List ℕ) (i : ℕ) (inv : KeptTo rows before cells spans i) where
-    pub kept_end : length rows ≤ i → KeepsTests rows before cells spans
+  module _ (kept : Kept) (i : ℕ) (inv : KeptTo rows before kept i) where
+    pub kept_end : length rows ≤ i → KeepsTests rows before kept
     kept_end z = record { lent = inv.lent; kinds_are = inv.kinds_are; all_kept = record { each = λ j l. inv.each j (omega (arith, z, l)) } }
 
     module _ (r : Row) (e : r ≡ row_of (get_or rows i 0)) where
       -- a test
-      pub kept_test : (p : Probe) (after : List ℕ) → r ≡ Row.Test p → Keeps p.index cells after spans → KeptTo rows before after spans (i + 1)
+      pub kept_test : (p : Probe) (after : Kept) → r ≡ Row.Test p → Keeps p.index kept after → KeptTo rows before after (i + 1)
       kept_test p after h k =
           record { lent = k.lent; kinds_are = k.kinds_are ∙ inv.kinds_are; each = λ j z q y. by_place j z q y (eqb j i) refl }
         where
-          by_place : (j : ℕ) → j < i + 1 → (q : Probe) → row_of (get_or rows j 0) ≡ Row.Test q → (t : Bool) → eqb j i ≡ t → get_or after (544 + q.index) 0 ≡ 0
+          by_place : (j : ℕ) → j < i + 1 → (q : Probe) → row_of (get_or rows j 0) ≡ Row.Test q → (t : Bool) → eqb j i ≡ t → IsKept after q.index
           by_place j z q y true t =
               let both : Row.Test p ≡ Row.Test q = sym h ∙ e ∙ ap (λ (n : ℕ). row_of (get_or rows n 0)) (sym (eqb-true j i t)) ∙ y in
               let same : p ≡ q = cc in
-              subst (λ (x : Probe). get_or after (544 + x.index) 0 ≡ 0) same k.own
-          by_place j z q y false t = k.others q.index (test_index (get_or rows j 0) (Row.Test q) q (sym y) refl) (inv.each j (omega (arith, z, eqb-false j i t)) q y)
+              subst (λ (x : Probe). IsKept after x.index) same k.own
+          by_place j z q y false t = k.others q.index (inv.each j (omega (arith, z, eqb-false j i t)) q y)
 
       -- a row that is none
-      pub kept_none : ((p : Probe) → r ≡ Row.Test p → ⊥) → KeptTo rows before cells spans (i + 1)
+      pub kept_none : ((p : Probe) → r ≡ Row.Test p → ⊥) → KeptTo rows before kept (i + 1)
       kept_none n =
           record { lent = inv.lent; kinds_are = inv.kinds_are; each = λ j z q y. by_place j z q y (eqb j i) refl }
         where
-          by_place : (j : ℕ) → j < i + 1 → (q : Probe) → row_of (get_or rows j 0) ≡ Row.Test q → (t : Bool) → eqb j i ≡ t → get_or cells (544 + q.index) 0 ≡ 0
+          by_place : (j : ℕ) → j < i + 1 → (q : Probe) → row_of (get_or rows j 0) ≡ Row.Test q → (t : Bool) → eqb j i ≡ t → IsKept kept q.index
           by_place j z q y true t = absurd (n q (e ∙ ap (λ (m : ℕ). row_of (get_or rows m 0)) (sym (eqb-true j i t)) ∙ y))
           by_place j z q y false t = inv.each j (omega (arith, z, eqb-false j i t)) q y
 
--- ---- the lists of a run
+-- ---- what is kept in a run
 
-pub lent_for : (kinds rows before after : List ℕ) (spans : List ℤ) → Lends kinds before spans → KeepsTests rows before after spans → LentFor kinds rows after spans
-lent_for kinds rows before after spans l k = record { lent = k.lent; kinds_are = k.kinds_are ∙ l.kinds_are; all_kept = k.all_kept }
+pub lent_for : (kinds rows : List ℕ) (before after : Kept) → Lends kinds before → KeepsTests rows before after → LentFor kinds rows after
+lent_for kinds rows before after l k = record { lent = k.lent; kinds_are = k.kinds_are ∙ l.kinds_are; all_kept = k.all_kept }
 
--- so they stay from card to card
-pub lent-on : (kinds rows before cells : List ℕ) (spans₀ spans : List ℤ) → LentFor kinds rows before spans₀ → Lent cells spans → BeginsAlike before cells → LentFor kinds rows cells spans
-lent-on kinds rows before cells spans₀ spans l w a =
+-- so it stays from card to card
+pub lent-on : (kinds rows : List ℕ) (before kept : Kept) → LentFor kinds rows before → Lent kept → BeginsAlike before kept → LentFor kinds rows kept
+lent-on kinds rows before kept l w a =
     record {
       lent = w;
-      kinds_are = kinds-alike before cells l.lent.size a ∙ l.kinds_are;
-      all_kept = record { each = λ j z p y. a.same (544 + p.index) (omega arith) ∙ l.all_kept.each j z p y };
+      kinds_are = a.kinds_are ∙ l.kinds_are;
+      all_kept = record { each = λ j z p y. ap (λ (q : List Bool). get_or q p.index false) a.asked_are ∙ l.all_kept.each j z p y };
     }
 
 -- rows that were opened are ready for a card of which all is kept
-pub lent-ready : (kinds xs rows card cells : List ℕ) (spans : List ℤ) → LentFor kinds rows cells spans → (values : List (Option Opened)) → length xs ≤ 1024 → Whole rows → Opens kinds xs rows values (length rows)
-    → KeepsCard card cells spans → Ready xs rows values card cells spans
-lent-ready kinds xs rows card cells spans l values h e o k =
+pub lent-ready : (kinds xs rows card : List ℕ) (kept : Kept) → LentFor kinds rows kept → (values : List (Option Opened)) → length xs ≤ 1024 → Whole rows → Opens kinds xs rows values (length rows)
+    → KeepsCard card kept → Ready xs rows values card kept
+lent-ready kinds xs rows card kept l values h e o k =
     record {
       short = h;
       whole = e;
@@ -85,15 +83,15 @@ lent-ready kinds xs rows card cells spans l values h e o k =
       all_kept = l.all_kept;
     }
 
-pub read_conforming : (kinds card before cells : List ℕ) (spans : List ℤ) (r : Bool) → ReadsCard kinds card before cells spans r → conforms_to kinds (entries_of card) ≡ true → r ≡ true
-read_conforming kinds card before cells spans r w h = w.answer ∙ h
+pub read_conforming : (kinds card : List ℕ) (before kept : Kept) (r : Bool) → ReadsCard kinds card before kept r → conforms_to kinds (entries_of card) ≡ true → r ≡ true
+read_conforming kinds card before kept r w h = w.answer ∙ h
 
-module _ (kinds xs rows card before cells : List ℕ) (spans₀ spans : List ℤ) (r : Bool) (l : LentFor kinds rows before spans₀) (w : ReadsCard kinds card before cells spans r) where
-  read-lent : LentFor kinds rows cells spans
-  read-lent = lent-on kinds rows before cells spans₀ spans l w.lent w.begins
+module _ (kinds xs rows card : List ℕ) (before kept : Kept) (r : Bool) (l : LentFor kinds rows before) (w : ReadsCard kinds card before kept r) where
+  read-lent : LentFor kinds rows kept
+  read-lent = lent-on kinds rows before kept l w.lent w.begins
 
-  pub read-ready : (values : List (Option Opened)) → length xs ≤ 1024 → Whole rows → Opens kinds xs rows values (length rows) → r ≡ true → Ready xs rows values card cells spans
-  read-ready values h e o y = lent-ready kinds xs rows card cells spans read-lent values h e o (w.keeps y)
+  pub read-ready : (values : List (Option Opened)) → length xs ≤ 1024 → Whole rows → Opens kinds xs rows values (length rows) → r ≡ true → Ready xs rows values card kept
+  read-ready values h e o y = lent-ready kinds xs rows card kept read-lent values h e o (w.keeps y)
 
-  pub read-says : (k : Chosen) (t : Bool) → t ≡ rows_say (kinds_in cells) xs (chosen_of k (entries_of card)) rows → t ≡ rows_say kinds xs (chosen_of k (entries_of card)) rows
+  pub read-says : (k : Chosen) (t : Bool) → t ≡ rows_say kept.kinds xs (chosen_of k (entries_of card)) rows → t ≡ rows_say kinds xs (chosen_of k (entries_of card)) rows
   read-says k t e = e ∙ ap (λ (n : List ℕ). rows_say n xs (chosen_of k (entries_of card)) rows) read-lent.kinds_are

@@ -42,9 +42,10 @@ use Rattle.rows.specs.declared.Probe.{Probe}
 use Rattle.rows.specs.declared.Row.{Row}
 use Rattle.rows.proofs.Cells.{row_test, row_bracket, row_not, row_connect, test_index, cell_probe}
 use Rattle.rows.proofs.Stating.{stated-encode, stated_are}
-use Rattle.card_reader.specs.Lists.{kinds_in, entry_cell, no_entry, IsKept, KeepsCard}
+use Rattle.card_reader.specs.Lists.{Lent, none_kept, no_entry, IsKept, KeepsCard}
+use Rattle.card_reader.specs.declared.Kept.{Kept}
 use Rattle.card_reader.specs.Listed.{entry_counts, some_before, OnChain, FirstFrom}
-use Rattle.card_reader.proofs.Chains.{before_cons, chain_begins, chain_all, chain_holds, chain_room, chain_byte, chain_less, chain_on, chain_step, some_first}
+use Rattle.card_reader.proofs.Chains.{before_cons, chain_begins, chain_all, chain_holds, chain_room, chain_less, chain_on, chain_step, some_first}
 use Rattle.row_opener.specs.Opening.{opened_value, opened_by, opened_for, opened_in, opened_row, value_of, Known}
 use Rattle.row_opener.specs.declared.Opened.{Opened}
 use Rattle.row_opener.proofs.Opening.{opens_second}
@@ -127,47 +128,44 @@ module _ (says : ℕ → Bool) (k : Chosen) (i : ℕ) (m : Meaning) (v : List �
 -- ---- the loop over the entries of a chain that count
 
 -- n is an entry that counts, or 0, and the entries from it on decide
-pub record Choosing (says : ℕ → Bool) (k : Chosen) (i : ℕ) (m : Meaning) (v card cells : List ℕ) (spans : List ℤ) (answer : Bool) (n : ℕ) : Type 0 where
-  pub keeps : KeepsCard card cells spans
-  pub on : OnChain card cells i n
+pub record Choosing (says : ℕ → Bool) (k : Chosen) (i : ℕ) (m : Meaning) (v card : List ℕ) (kept : Kept) (answer : Bool) (n : ℕ) : Type 0 where
+  pub keeps : KeepsCard card kept
+  pub on : OnChain card kept i n
   pub counts_here : (e : ℕ) → n ≡ e + 1 → entry_counts k m v (get_or (entries_of card) e no_entry) ≡ true
   pub rest : some_before (says_too says k m v) i (entries_of card) n ≡ answer
 
-module _ (says : ℕ → Bool) (k : Chosen) (i : ℕ) (m : Meaning) (v card cells : List ℕ) (spans : List ℤ) where
-  pub choosing_start : KeepsCard card cells spans → (from r : ℕ) → i < 32 → IsKept cells i → from ≡ get_or cells i 0 → FirstFrom (entry_counts k m v) card cells i from r
-      → Choosing says k i m v card cells spans (some_entry says k i m v (entries_of card)) r
-  choosing_start h from r l kept e f =
+module _ (says : ℕ → Bool) (k : Chosen) (i : ℕ) (m : Meaning) (v card : List ℕ) (kept : Kept) where
+  pub choosing_start : KeepsCard card kept → (from r : ℕ) → i < 32 → IsKept kept i → from ≡ get_or kept.last i 0 → FirstFrom (entry_counts k m v) card kept i from r
+      → Choosing says k i m v card kept (some_entry says k i m v (entries_of card)) r
+  choosing_start h from r l y e f =
       record {
         keeps = h;
         on = f.on;
         counts_here = f.counts;
         rest =
-            sym (f.passed (says_too says k m v) (counts-first says k i m v)) ∙ sym (chain_all card cells spans h i (says_too says k m v) from l kept e)
+            sym (f.passed (says_too says k m v) (counts-first says k i m v)) ∙ sym (chain_all card kept h i (says_too says k m v) from l y e)
             ∙ entries_before says k i m v (entries_of card);
       }
 
-  module _ (answer : Bool) (n : ℕ) (inv : Choosing says k i m v card cells spans answer n) (l : 0 < n) where
-    h : KeepsCard card cells spans
+  module _ (answer : Bool) (n : ℕ) (inv : Choosing says k i m v card kept answer n) (l : 0 < n) where
+    h : KeepsCard card kept
     h = inv.keeps
 
     pub choosing_room : n - 1 < 64
-    choosing_room = chain_room card cells spans h i n inv.on l
+    choosing_room = chain_room card kept h i n inv.on l
 
-    pub choosing_byte : get_or cells (entry_cell (n - 1) + 1) 0 < 256
-    choosing_byte = chain_byte card cells spans h i n inv.on l
-
-    module _ (o : ℕ) (oe : o ≡ get_or cells (entry_cell (n - 1) + 1) 0) (r : Bool) (y : r ≡ says o) where
+    module _ (o : ℕ) (oe : o ≡ (get_or kept.entries (n - 1) none_kept).occurrence) (r : Bool) (y : r ≡ says o) where
       here_is : says_too says k m v (get_or (entries_of card) (n - 1) no_entry) ≡ r
       here_is =
-          let own : o ≡ (get_or (entries_of card) (n - 1) no_entry).occurrence = oe ∙ (chain_holds card cells spans h i n inv.on l).occurrence in
+          let own : o ≡ (get_or (entries_of card) (n - 1) no_entry).occurrence = oe ∙ (chain_holds card kept h i n inv.on l).occurrence in
           let there : entry_counts k m v (get_or (entries_of card) (n - 1) no_entry) ≡ true = inv.counts_here (n - 1) (omega (arith, l)) in
           ap (λ (b : Bool). b && says (get_or (entries_of card) (n - 1) no_entry).occurrence) there ∙ sym (y ∙ ap says own)
 
-      module _ (b : ℕ) (be : b ≡ get_or cells (entry_cell (n - 1)) 0) where
+      module _ (b : ℕ) (be : b ≡ (get_or kept.entries (n - 1) none_kept).behind) where
         step : answer ≡ (r || some_before (says_too says k m v) i (entries_of card) b)
-        step = sym inv.rest ∙ chain_step card cells spans h i n inv.on l b be (says_too says k m v) ∙ ap (λ (x : Bool). x || some_before (says_too says k m v) i (entries_of card) b) here_is
+        step = sym inv.rest ∙ chain_step card kept h i n inv.on l b be (says_too says k m v) ∙ ap (λ (x : Bool). x || some_before (says_too says k m v) i (entries_of card) b) here_is
 
-        pub choosing_next : (q : ℕ) → FirstFrom (entry_counts k m v) card cells i b q → r ≡ false → Choosing says k i m v card cells spans answer q
+        pub choosing_next : (q : ℕ) → FirstFrom (entry_counts k m v) card kept i b q → r ≡ false → Choosing says k i m v card kept answer q
         choosing_next q f z =
             record {
               keeps = h;
@@ -178,10 +176,10 @@ module _ (says : ℕ → Bool) (k : Chosen) (i : ℕ) (m : Meaning) (v card cell
 
       pub choosing_yes : r ≡ true → true ≡ answer
       choosing_yes z =
-          let b : ℕ = get_or cells (entry_cell (n - 1)) 0 in
+          let b : ℕ = (get_or kept.entries (n - 1) none_kept).behind in
           sym (step b refl ∙ ap (λ (x : Bool). x || some_before (says_too says k m v) i (entries_of card) b) z)
 
-  pub choosing_end : (answer : Bool) (n : ℕ) → Choosing says k i m v card cells spans answer n → n ≤ 0 → false ≡ answer
+  pub choosing_end : (answer : Bool) (n : ℕ) → Choosing says k i m v card kept answer n → n ≤ 0 → false ≡ answer
   unfolding some_before
   choosing_end answer n inv z = let e : n ≡ 0 = omega (arith, z) in rw e at inv.rest
 
@@ -264,15 +262,15 @@ module _ (kinds xs : List ℕ) (p : Probe) (c : Option Opened) (e : c ≡ opened
 -- ---- a value that was opened
 
 -- the first entry that counts for a value is that for the same value
-first-same : (k : Chosen) (m : Meaning) (card cells : List ℕ) (i from r : ℕ) {v w : List ℕ} → v ≡ w → FirstFrom (entry_counts k m v) card cells i from r → FirstFrom (entry_counts k m w) card cells i from r
-first-same k m card cells i from r e f = subst (λ (x : List ℕ). FirstFrom (entry_counts k m x) card cells i from r) e f
+first-same : (k : Chosen) (m : Meaning) (card : List ℕ) (kept : Kept) (i from r : ℕ) {v w : List ℕ} → v ≡ w → FirstFrom (entry_counts k m v) card kept i from r → FirstFrom (entry_counts k m w) card kept i from r
+first-same k m card kept i from r e f = subst (λ (x : List ℕ). FirstFrom (entry_counts k m x) card kept i from r) e f
 
 module _ (raw out : List ℕ) (n : ℕ) (d : Decoded raw out n) where
   pub decoded-read : (m : Meaning) (w : Readings) → w ≡ readings_for m (decode false raw) → w ≡ readings_for m (take n out)
   decoded-read m w e = e ∙ ap (readings_for m) (sym d.is)
 
-  pub decoded-first : (k : Chosen) (m : Meaning) (card cells : List ℕ) (i from r : ℕ) → FirstFrom (entry_counts k m (take n out)) card cells i from r → FirstFrom (entry_counts k m (decode false raw)) card cells i from r
-  decoded-first k m card cells i from r f = first-same k m card cells i from r d.is f
+  pub decoded-first : (k : Chosen) (m : Meaning) (card : List ℕ) (kept : Kept) (i from r : ℕ) → FirstFrom (entry_counts k m (take n out)) card kept i from r → FirstFrom (entry_counts k m (decode false raw)) card kept i from r
+  decoded-first k m card kept i from r f = first-same k m card kept i from r d.is f
 
 module _ (xs : List ℕ) (m : Meaning) (o : Opened) (w : Known xs m o) where
   escaped-value : o.escaped ≡ true → decode false (part xs o.start o.end) ≡ value_of xs o
@@ -290,28 +288,25 @@ module _ (xs : List ℕ) (m : Meaning) (o : Opened) (w : Known xs m o) where
     pub plain-read : o.escaped ≡ false → o.readings ≡ readings_for m (part xs a b)
     plain-read h = w.read ∙ ap (readings_for m) (sym (plain_value_lem h) ∙ rw (s, t))
 
-    module _ (k : Chosen) (card cells : List ℕ) (i from r : ℕ) where
-      pub escaped-first : o.escaped ≡ true → FirstFrom (entry_counts k m (decode false (part xs a b))) card cells i from r → FirstFrom (entry_counts k m (value_of xs o)) card cells i from r
-      escaped-first h f = first-same k m card cells i from r (rw (s, t) (escaped-value h)) f
+    module _ (k : Chosen) (card : List ℕ) (kept : Kept) (i from r : ℕ) where
+      pub escaped-first : o.escaped ≡ true → FirstFrom (entry_counts k m (decode false (part xs a b))) card kept i from r → FirstFrom (entry_counts k m (value_of xs o)) card kept i from r
+      escaped-first h f = first-same k m card kept i from r (rw (s, t) (escaped-value h)) f
 
-      pub plain-first : o.escaped ≡ false → FirstFrom (entry_counts k m (part xs a b)) card cells i from r → FirstFrom (entry_counts k m (value_of xs o)) card cells i from r
-      plain-first h f = first-same k m card cells i from r (rw (s, t) (plain_value_lem h)) f
+      pub plain-first : o.escaped ≡ false → FirstFrom (entry_counts k m (part xs a b)) card kept i from r → FirstFrom (entry_counts k m (value_of xs o)) card kept i from r
+      plain-first h f = first-same k m card kept i from r (rw (s, t) (plain_value_lem h)) f
 
 -- ---- a test without brackets, by the lists of the card
 
-module _ (card cells : List ℕ) (spans : List ℤ) (h : KeepsCard card cells spans) (i : ℕ) (l : i < 32) (z : get_or cells (544 + i) 0 ≡ 0) where
-  is_kept : IsKept cells i
-  is_kept = h.kept i l z
+module _ (card : List ℕ) (kept : Kept) (h : KeepsCard card kept) (i : ℕ) (l : i < 32) (z : IsKept kept i) where
+  pub test_chain : (from : ℕ) → from ≡ get_or kept.last i 0 → OnChain card kept i from
+  test_chain from e = chain_begins card kept h i from l z e
 
-  pub test_chain : (from : ℕ) → from ≡ get_or cells i 0 → OnChain card cells i from
-  test_chain from e = chain_begins card cells spans h i from l is_kept e
-
-  pub test_opened : (xs : List ℕ) (p : Probe) (c : Option Opened) (o : Opened) → c ≡ opened_for (kinds_in cells) xs p → c ≡ Some o → p.index ≡ i → (k : Chosen) (m : Meaning) (kind from first : ℕ) (r : Bool) → kind ≡ get_or (kinds_in cells) i 0
-      → m ≡ meaning_of p.operator kind → from ≡ get_or cells i 0 → FirstFrom (entry_counts k m (value_of xs o)) card cells i from first → r ≡ some_says m o.truth (ltb 0 first)
-      → r ≡ probe_says (kinds_in cells) xs p (chosen_of k (entries_of card))
+  pub test_opened : (xs : List ℕ) (p : Probe) (c : Option Opened) (o : Opened) → c ≡ opened_for kept.kinds xs p → c ≡ Some o → p.index ≡ i → (k : Chosen) (m : Meaning) (kind from first : ℕ) (r : Bool) → kind ≡ get_or kept.kinds i 0
+      → m ≡ meaning_of p.operator kind → from ≡ get_or kept.last i 0 → FirstFrom (entry_counts k m (value_of xs o)) card kept i from first → r ≡ some_says m o.truth (ltb 0 first)
+      → r ≡ probe_says kept.kinds xs p (chosen_of k (entries_of card))
   test_opened xs p c o e f same k m kind from first r ke me fe d y =
-      plain-opened (kinds_in cells) xs p c e o f (chosen_of k (entries_of card)) m kind (ltb 0 first) r (ke ∙ ap (λ (n : ℕ). get_or (kinds_in cells) n 0) (sym same)) me
-      (some_first card cells spans h i l is_kept k m (value_of xs o) from first fe d ∙ ap (λ (n : ℕ). some_value (text_counts m (value_of xs o)) (values_at n (chosen_of k (entries_of card)))) (sym same)) y
+      plain-opened kept.kinds xs p c e o f (chosen_of k (entries_of card)) m kind (ltb 0 first) r (ke ∙ ap (λ (n : ℕ). get_or kept.kinds n 0) (sym same)) me
+      (some_first card kept h i l z k m (value_of xs o) from first fe d ∙ ap (λ (n : ℕ). some_value (text_counts m (value_of xs o)) (values_at n (chosen_of k (entries_of card)))) (sym same)) y
 
 -- ---- rows, from left to right with a verdict in hand
 
@@ -426,8 +421,8 @@ module _ (kinds xs : List ℕ) (k : Chosen) (all : List Entry) where
       by_row Row.Unknown i g = absurd (none-ne-some _ g)
 
 -- the parameters that a part of the rows asks about
-kept_part : {rows cells : List ℕ} → AllKept rows cells → (m e : ℕ) → e ≤ length rows → AllKept (part rows m e) cells
-kept_part {rows} {cells} w m e h =
+kept_part : {rows : List ℕ} {kept : Kept} → AllKept rows kept → (m e : ℕ) → e ≤ length rows → AllKept (part rows m e) kept
+kept_part {rows} {kept} w m e h =
     record {
       each = λ j l p r.
           let z : j < e - m = omega (arith, l, length-take (e - m) (drop m rows)) in
@@ -512,8 +507,8 @@ module _ (kinds xs rows : List ℕ) (k : Chosen) (all : List Entry) where
         pub part-size : length part_rows ≡ n + 1
         part-size = part_length rows (at + 1) (at + 1 + n + 1) bracket_room ∙ (omega arith)
 
-        pub bracket_ready : {values : List (Option Opened)} {card cells : List ℕ} {spans : List ℤ} → Ready xs rows values card cells spans
-            → Bracketed xs part_rows (take (length values - (at + 1)) (drop (at + 1) values)) card cells spans
+        pub bracket_ready : {values : List (Option Opened)} {card : List ℕ} {kept : Kept} → Ready xs rows values card kept
+            → Bracketed xs part_rows (take (length values - (at + 1)) (drop (at + 1) values)) card kept
         bracket_ready w =
             record {
               short = w.short;
@@ -535,23 +530,23 @@ module _ (kinds xs rows : List ℕ) (k : Chosen) (all : List Entry) where
 
 -- ---- rows that are ready, and a test after brackets
 
-module _ {xs rows : List ℕ} {values : List (Option Opened)} {card cells : List ℕ} {spans : List ℤ} (w : Ready xs rows values card cells spans) (at : ℕ) (l : at < length rows) where
+module _ {xs rows : List ℕ} {values : List (Option Opened)} {card : List ℕ} {kept : Kept} (w : Ready xs rows values card kept) (at : ℕ) (l : at < length rows) where
   pub ready-value : at < length values
   ready-value = omega (arith, l, w.opens.room)
 
   module _ (r : Row) (e : r ≡ row_of (get_or rows at 0)) (p : Probe) (j : r ≡ Row.Test p) where
-    pub ready_test : (o : Option Opened) → o ≡ get_or values at None → o ≡ opened_for (kinds_in cells) xs p
+    pub ready_test : (o : Option Opened) → o ≡ get_or values at None → o ≡ opened_for kept.kinds xs p
     unfolding opened_row
-    ready_test o h = h ∙ w.opens.each at l ∙ ap (opened_in (kinds_in cells) xs) (sym e ∙ j)
+    ready_test o h = h ∙ w.opens.each at l ∙ ap (opened_in kept.kinds xs) (sym e ∙ j)
 
-    pub ready_kept : get_or cells (544 + p.index) 0 ≡ 0
+    pub ready_kept : IsKept kept p.index
     ready_kept = w.all_kept.each at l p (sym e ∙ j)
 
-module _ {xs rows : List ℕ} {values : List (Option Opened)} {card cells : List ℕ} {spans : List ℤ} (w : Bracketed xs rows values card cells spans) where
+module _ {xs rows : List ℕ} {values : List (Option Opened)} {card : List ℕ} {kept : Kept} (w : Bracketed xs rows values card kept) where
   pub bracketed_value : 0 < length values
   bracketed_value = omega (arith, w.some_row, w.opens.room)
 
-  pub bracketed_inner : Ready xs (take (length rows - 1) (drop 1 rows)) (take (length values - 1) (drop 1 values)) card cells spans
+  pub bracketed_inner : Ready xs (take (length rows - 1) (drop 1 rows)) (take (length values - 1) (drop 1 values)) card kept
   bracketed_inner =
       record {
         short = w.short;
@@ -568,54 +563,54 @@ module _ {xs rows : List ℕ} {values : List (Option Opened)} {card cells : List
     pub bracketed_index : p.index < 32
     bracketed_index = test_index (get_or rows 0 0) (Row.Test p) p (sym (w.row ∙ ap Row.Test test_is)) refl
 
-    bracketed_kept : IsKept cells p.index
-    bracketed_kept = w.keeps.kept p.index bracketed_index (w.all_kept.each 0 (omega (arith, w.some_row)) p (w.row ∙ ap Row.Test test_is))
+    bracketed_kept : IsKept kept p.index
+    bracketed_kept = w.all_kept.each 0 (omega (arith, w.some_row)) p (w.row ∙ ap Row.Test test_is)
 
-    pub bracketed_chain : (from : ℕ) → from ≡ get_or cells p.index 0 → OnChain card cells p.index from
-    bracketed_chain from e = chain_begins card cells spans w.keeps p.index from bracketed_index bracketed_kept e
+    pub bracketed_chain : (from : ℕ) → from ≡ get_or kept.last p.index 0 → OnChain card kept p.index from
+    bracketed_chain from e = chain_begins card kept w.keeps p.index from bracketed_index bracketed_kept e
 
     module _ (c : Option Opened) (h : c ≡ get_or values 0 None) where
-      opened_is : c ≡ opened_for (kinds_in cells) xs p
+      opened_is : c ≡ opened_for kept.kinds xs p
       unfolding opened_row
-      opened_is = h ∙ w.opens.each 0 (omega (arith, w.some_row)) ∙ ap (opened_in (kinds_in cells) xs) (w.row ∙ ap Row.Test test_is)
+      opened_is = h ∙ w.opens.each 0 (omega (arith, w.some_row)) ∙ ap (opened_in kept.kinds xs) (w.row ∙ ap Row.Test test_is)
 
       abbrev inner_rows : List ℕ
       inner_rows = take (length rows - 1) (drop 1 rows)
 
-      bracket_none : (k : Chosen) → c ≡ None → false ≡ bracket_says (kinds_in cells) xs rows k (entries_of card)
-      bracket_none k f = probe_closed (kinds_in cells) xs p c opened_is inner_rows k (entries_of card) f ∙ ap (λ (x : Probe). probe_says_each (kinds_in cells) xs inner_rows x k (entries_of card)) i
+      bracket_none : (k : Chosen) → c ≡ None → false ≡ bracket_says kept.kinds xs rows k (entries_of card)
+      bracket_none k f = probe_closed kept.kinds xs p c opened_is inner_rows k (entries_of card) f ∙ ap (λ (x : Probe). probe_says_each kept.kinds xs inner_rows x k (entries_of card)) i
 
-      module _ (o : Opened) (f : c ≡ Some o) (k : Chosen) (m : Meaning) (kind : ℕ) (a : kind ≡ get_or (kinds_in cells) p.index 0) (b : m ≡ meaning_of p.operator kind) where
+      module _ (o : Opened) (f : c ≡ Some o) (k : Chosen) (m : Meaning) (kind : ℕ) (a : kind ≡ get_or kept.kinds p.index 0) (b : m ≡ meaning_of p.operator kind) where
         pub bracket_known : Known xs m o
-        bracket_known = probe_known (kinds_in cells) xs p c opened_is o f m kind a b
+        bracket_known = probe_known kept.kinds xs p c opened_is o f m kind a b
 
         -- the answer that the loop over the entries looks for
         abbrev bracket_some : Bool
-        bracket_some = some_entry (in_brackets (kinds_in cells) xs rows (entries_of card)) k p.index m (value_of xs o) (entries_of card)
+        bracket_some = some_entry (in_brackets kept.kinds xs rows (entries_of card)) k p.index m (value_of xs o) (entries_of card)
 
-        pub bracket_start : (from r : ℕ) → from ≡ get_or cells p.index 0 → FirstFrom (entry_counts k m (value_of xs o)) card cells p.index from r
-            → Choosing (in_brackets (kinds_in cells) xs rows (entries_of card)) k p.index m (value_of xs o) card cells spans bracket_some r
-        bracket_start from r e c = choosing_start (in_brackets (kinds_in cells) xs rows (entries_of card)) k p.index m (value_of xs o) card cells spans w.keeps from r bracketed_index bracketed_kept e c
+        pub bracket_start : (from r : ℕ) → from ≡ get_or kept.last p.index 0 → FirstFrom (entry_counts k m (value_of xs o)) card kept p.index from r
+            → Choosing (in_brackets kept.kinds xs rows (entries_of card)) k p.index m (value_of xs o) card kept bracket_some r
+        bracket_start from r e c = choosing_start (in_brackets kept.kinds xs rows (entries_of card)) k p.index m (value_of xs o) card kept w.keeps from r bracketed_index bracketed_kept e c
 
-        pub bracket_opened : (s r : Bool) → s ≡ bracket_some → r ≡ some_says m o.truth s → r ≡ bracket_says (kinds_in cells) xs rows k (entries_of card)
+        pub bracket_opened : (s r : Bool) → s ≡ bracket_some → r ≡ some_says m o.truth s → r ≡ bracket_says kept.kinds xs rows k (entries_of card)
         unfolding in_brackets
-        bracket_opened s r q y = probe_opened (kinds_in cells) xs p c opened_is o f inner_rows k (entries_of card) m kind s r a b q y ∙ ap (λ (x : Probe). probe_says_each (kinds_in cells) xs inner_rows x k (entries_of card)) i
+        bracket_opened s r q y = probe_opened kept.kinds xs p c opened_is o f inner_rows k (entries_of card) m kind s r a b q y ∙ ap (λ (x : Probe). probe_says_each kept.kinds xs inner_rows x k (entries_of card)) i
 
-  pub bracket_closed : (k : Chosen) (c : Option Opened) → c ≡ get_or values 0 None → c ≡ None → false ≡ bracket_says (kinds_in cells) xs rows k (entries_of card)
+  pub bracket_closed : (k : Chosen) (c : Option Opened) → c ≡ get_or values 0 None → c ≡ None → false ≡ bracket_says kept.kinds xs rows k (entries_of card)
   bracket_closed k c h f = bracket_none (probe_of (get_or rows 0 0 / 8)) refl c h k f
 
 -- ---- the loop of a test after brackets
 
 -- what it keeps: n is an entry that counts, or 0, and the entries from it on decide
-pub record Brackets (xs rows : List ℕ) (values : List (Option Opened)) (card cells : List ℕ) (spans : List ℤ) (k : Chosen) (i : ℕ) (m : Meaning) (o : Opened) (n : ℕ) : Type 0 where
-  pub ready : Bracketed xs rows values card cells spans
+pub record Brackets (xs rows : List ℕ) (values : List (Option Opened)) (card : List ℕ) (kept : Kept) (k : Chosen) (i : ℕ) (m : Meaning) (o : Opened) (n : ℕ) : Type 0 where
+  pub ready : Bracketed xs rows values card kept
   pub known : Known xs m o
-  pub choosing : Choosing (in_brackets (kinds_in cells) xs rows (entries_of card)) k i m (value_of xs o) card cells spans (some_entry (in_brackets (kinds_in cells) xs rows (entries_of card)) k i m (value_of xs o) (entries_of card)) n
-  pub answers : (s r : Bool) → s ≡ some_entry (in_brackets (kinds_in cells) xs rows (entries_of card)) k i m (value_of xs o) (entries_of card) → r ≡ some_says m o.truth s → r ≡ bracket_says (kinds_in cells) xs rows k (entries_of card)
+  pub choosing : Choosing (in_brackets kept.kinds xs rows (entries_of card)) k i m (value_of xs o) card kept (some_entry (in_brackets kept.kinds xs rows (entries_of card)) k i m (value_of xs o) (entries_of card)) n
+  pub answers : (s r : Bool) → s ≡ some_entry (in_brackets kept.kinds xs rows (entries_of card)) k i m (value_of xs o) (entries_of card) → r ≡ some_says m o.truth s → r ≡ bracket_says kept.kinds xs rows k (entries_of card)
 
-module _ (xs rows : List ℕ) (values : List (Option Opened)) (card cells : List ℕ) (spans : List ℤ) (k : Chosen) (m : Meaning) (o : Opened) where
-  pub brackets_start : (p : Probe) (r' : Option Opened) (kind from r : ℕ) → Bracketed xs rows values card cells spans → p ≡ probe_of (get_or rows 0 0 / 8) → r' ≡ get_or values 0 None → r' ≡ Some o → kind ≡ get_or (kinds_in cells) p.index 0
-      → m ≡ meaning_of p.operator kind → from ≡ get_or cells p.index 0 → FirstFrom (entry_counts k m (value_of xs o)) card cells p.index from r → Brackets xs rows values card cells spans k p.index m o r
+module _ (xs rows : List ℕ) (values : List (Option Opened)) (card : List ℕ) (kept : Kept) (k : Chosen) (m : Meaning) (o : Opened) where
+  pub brackets_start : (p : Probe) (r' : Option Opened) (kind from r : ℕ) → Bracketed xs rows values card kept → p ≡ probe_of (get_or rows 0 0 / 8) → r' ≡ get_or values 0 None → r' ≡ Some o → kind ≡ get_or kept.kinds p.index 0
+      → m ≡ meaning_of p.operator kind → from ≡ get_or kept.last p.index 0 → FirstFrom (entry_counts k m (value_of xs o)) card kept p.index from r → Brackets xs rows values card kept k p.index m o r
   brackets_start p r' kind from r w i h f a b e c =
       record {
         ready = w;
@@ -624,47 +619,44 @@ module _ (xs rows : List ℕ) (values : List (Option Opened)) (card cells : List
         answers = bracket_opened w p i r' h o f k m kind a b;
       }
 
-  module _ (i n : ℕ) (inv : Brackets xs rows values card cells spans k i m o n) where
-    pub brackets_end : (r : Bool) → n ≤ 0 → r ≡ some_says m o.truth false → r ≡ bracket_says (kinds_in cells) xs rows k (entries_of card)
-    brackets_end r z y = inv.answers false r (choosing_end (in_brackets (kinds_in cells) xs rows (entries_of card)) k i m (value_of xs o) card cells spans (some_entry (in_brackets (kinds_in cells) xs rows (entries_of card)) k i m (value_of xs o) (entries_of card)) n inv.choosing z) y
+  module _ (i n : ℕ) (inv : Brackets xs rows values card kept k i m o n) where
+    pub brackets_end : (r : Bool) → n ≤ 0 → r ≡ some_says m o.truth false → r ≡ bracket_says kept.kinds xs rows k (entries_of card)
+    brackets_end r z y = inv.answers false r (choosing_end (in_brackets kept.kinds xs rows (entries_of card)) k i m (value_of xs o) card kept (some_entry (in_brackets kept.kinds xs rows (entries_of card)) k i m (value_of xs o) (entries_of card)) n inv.choosing z) y
 
     abbrev says : ℕ → Bool
-    says = in_brackets (kinds_in cells) xs rows (entries_of card)
+    says = in_brackets kept.kinds xs rows (entries_of card)
 
     abbrev answer : Bool
     answer = some_entry says k i m (value_of xs o) (entries_of card)
 
     module _ (l : 0 < n) where
-      pub brackets_size : length cells ≡ 608
-      brackets_size = inv.ready.keeps.lent.size
+      pub brackets_lent : Lent kept
+      brackets_lent = inv.ready.keeps.lent
 
       pub brackets_room : n - 1 < 64
-      brackets_room = choosing_room says k i m (value_of xs o) card cells spans answer n inv.choosing l
+      brackets_room = choosing_room says k i m (value_of xs o) card kept answer n inv.choosing l
 
-      pub brackets_byte : get_or cells (entry_cell (n - 1) + 1) 0 < 256
-      brackets_byte = choosing_byte says k i m (value_of xs o) card cells spans answer n inv.choosing l
+      module _ (b : ℕ) (be : b ≡ (get_or kept.entries (n - 1) none_kept).behind) where
+        pub brackets_behind : OnChain card kept i b
+        brackets_behind = chain_on card kept inv.ready.keeps i n inv.choosing.on l b be
 
-      module _ (b : ℕ) (be : b ≡ get_or cells (entry_cell (n - 1)) 0) where
-        pub brackets_behind : OnChain card cells i b
-        brackets_behind = chain_on card cells spans inv.ready.keeps i n inv.choosing.on l b be
+        pub brackets_less : (a : ℕ) → FirstFrom (entry_counts k m (value_of xs o)) card kept i b a → a < n
+        brackets_less a f = omega (arith, f.less, chain_less card kept inv.ready.keeps i n inv.choosing.on l b be)
 
-        pub brackets_less : (a : ℕ) → FirstFrom (entry_counts k m (value_of xs o)) card cells i b a → a < n
-        brackets_less a f = omega (arith, f.less, chain_less card cells spans inv.ready.keeps i n inv.choosing.on l b be)
-
-      module _ (q : ℕ) (qe : q ≡ get_or cells (entry_cell (n - 1) + 1) 0) (r : Bool)
-          (y : r ≡ rows_say (kinds_in cells) xs (chosen_of (Some q) (entries_of card)) (take (length rows - 1) (drop 1 rows))) where
+      module _ (q : ℕ) (qe : q ≡ (get_or kept.entries (n - 1) none_kept).occurrence) (r : Bool)
+          (y : r ≡ rows_say kept.kinds xs (chosen_of (Some q) (entries_of card)) (take (length rows - 1) (drop 1 rows))) where
         said : r ≡ says q
-        said = occurrence_says_lem (kinds_in cells) xs rows (entries_of card) q r y
+        said = occurrence_says_lem kept.kinds xs rows (entries_of card) q r y
 
-        pub brackets_yes : (t : Bool) → r ≡ true → t ≡ some_says m o.truth true → t ≡ bracket_says (kinds_in cells) xs rows k (entries_of card)
-        brackets_yes t z g = inv.answers true t (choosing_yes says k i m (value_of xs o) card cells spans answer n inv.choosing l q qe r said z) g
+        pub brackets_yes : (t : Bool) → r ≡ true → t ≡ some_says m o.truth true → t ≡ bracket_says kept.kinds xs rows k (entries_of card)
+        brackets_yes t z g = inv.answers true t (choosing_yes says k i m (value_of xs o) card kept answer n inv.choosing l q qe r said z) g
 
-        module _ (b : ℕ) (be : b ≡ get_or cells (entry_cell (n - 1)) 0) where
-          pub brackets_next : (a : ℕ) → FirstFrom (entry_counts k m (value_of xs o)) card cells i b a → r ≡ false → Brackets xs rows values card cells spans k i m o a
+        module _ (b : ℕ) (be : b ≡ (get_or kept.entries (n - 1) none_kept).behind) where
+          pub brackets_next : (a : ℕ) → FirstFrom (entry_counts k m (value_of xs o)) card kept i b a → r ≡ false → Brackets xs rows values card kept k i m o a
           brackets_next a f z =
               record {
                 ready = inv.ready;
                 known = inv.known;
-                choosing = choosing_next says k i m (value_of xs o) card cells spans answer n inv.choosing l q qe r said b be a f z;
+                choosing = choosing_next says k i m (value_of xs o) card kept answer n inv.choosing l q qe r said b be a f z;
                 answers = inv.answers;
               }

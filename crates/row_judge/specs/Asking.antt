@@ -1,17 +1,18 @@
 -- The parameters that rows ask about.
 -- Assumes nothing.
-use Rattle.std.specs.Prelude.{ℕ, ◌≡◌, List, ℤ}
-use Rattle.card_reader.specs.Lists.{Lent, kinds_in}
+use Rattle.std.specs.Prelude.{ℕ, ◌≡◌, List}
+use Rattle.card_reader.specs.Lists.{Lent}
+use Rattle.card_reader.specs.declared.Kept.{Kept}
 use Rattle.row_judge.specs.Saying.{AllKept}
 
--- the lists after every parameter that the rows ask about was kept
-pub record KeepsTests (rows before after : List ℕ) (spans : List ℤ) : Type 0 where
-  pub lent : Lent after spans
-  pub kinds_are : kinds_in after ≡ kinds_in before
+-- the entries of every parameter that the rows ask about are kept
+pub record KeepsTests (rows : List ℕ) (before after : Kept) : Type 0 where
+  pub lent : Lent after
+  pub kinds_are : after.kinds ≡ before.kinds
   pub all_kept : AllKept rows after
 
--- the lists are lent for a run by these rows, with these kinds
-pub record LentFor (kinds rows cells : List ℕ) (spans : List ℤ) : Type 0 where
-  pub lent : Lent cells spans
-  pub kinds_are : kinds_in cells ≡ kinds
-  pub all_kept : AllKept rows cells
+-- it is lent for a run by these rows, with these kinds
+pub record LentFor (kinds rows : List ℕ) (kept : Kept) : Type 0 where
+  pub lent : Lent kept
+  pub kinds_are : kept.kinds ≡ kinds
+  pub all_kept : AllKept rows kept

@@ -27,11 +27,9 @@ fn say_opened(
     requires card_value_2 { conforms_to kinds.now (entries_of card.now) ≡ true }
     ensures { result ≡ rows_say kinds.now filter.now (chosen_of chosen (entries_of card.now)) rows.now }
 {
-    let mut cells = [0u64; 608];
-    let mut spans = [0i64; 128];
-    lend_for(kinds, rows, &mut cells, &spans);
-    read_entries(kinds, card, &mut cells, &mut spans);
-    rows_say(filter, rows, values, card, &cells, &spans, chosen)
+    let mut kept = lend_for(kinds, rows);
+    read_entries(kinds, card, &mut kept);
+    rows_say(filter, rows, values, card, &kept, chosen)
 }
 
 // The same of rows that are opened for this card; good rows are that few.

@@ -1,19 +1,19 @@
 // What rows that were opened say of a card. They are read from left to right with one verdict in hand: a test sets it, not turns it round,
 // and a join whose first part decides it leaves the rows of its second part out; else the second part's verdict is the join's. The rows in
 // a test's brackets are judged for each occurrence by itself. The card was read: a test goes along the entries of its own parameter.
-ghost use Rattle.std.specs.Prelude.{◌≡◌, false, ◌+◌, ◌≤◌, ◌<◌, length, get_or};
+ghost use Rattle.std.specs.Prelude.{◌≡◌, false, ◌≤◌, ◌<◌, length};
 ghost use Rattle.card.specs.Card.{entries_of};
 ghost use Rattle.syntax.specs.Scan.{decode as decoded};
 ghost use Rattle.judge.specs.Once.{readings_for};
 ghost use Rattle.judge.specs.Sets.{chosen_of};
-ghost use Rattle.card_reader.specs.Lists.{kinds_in, KeepsCard};
+ghost use Rattle.card_reader.specs.Lists.{IsKept, KeepsCard};
 ghost use Rattle.card_reader.specs.Listed.{entry_counts, OnChain, FirstFrom};
 ghost use Rattle.row_judge.specs.Saying.{probe_says, rows_say, Ready, Bracketed, skipped, bracket_says};
 ghost use Rattle.row_opener.specs.Opening.{Known, value_of, opened_for};
 
 use card::Card;
 use crate::Asked;
-use card_reader::{Question, chain_behind, chain_of, kind_at, next_counting, occurrence_of};
+use card_reader::{Kept, Question, chain_behind, chain_of, kind_at, next_counting, occurrence_of};
 use judge::{Chosen, some_says};
 use row_opener::Opened;
 use rows::{Probe, Row, probe_of, row_of};
@@ -44,38 +44,36 @@ fn skipped(connective: Connective, first: bool, size: usize) -> usize
 fn next_escaped(
     raw: &[u8],
     card: &Card<'_>,
-    cells: &[u64],
-    spans: &[i64],
+    kept: &Kept,
     chosen: Chosen,
     question: Question,
     from: usize,
 ) -> usize
     requires raw_len_bound { length raw.now ≤ 1024 }
-    requires keeps_card { KeepsCard card.now cells.now spans.now }
-    requires on_chain { OnChain card.now cells.now question.index from }
+    requires keeps_card { KeepsCard card.now kept.now }
+    requires on_chain { OnChain card.now kept.now question.index from }
     requires readings_value { question.readings ≡ readings_for question.meaning (decoded false raw.now) }
-    ensures { FirstFrom (entry_counts chosen question.meaning (decoded false raw.now)) card.now cells.now question.index from result }
+    ensures { FirstFrom (entry_counts chosen question.meaning (decoded false raw.now)) card.now kept.now question.index from result }
 {
     let mut value = [0u8; 1024];
     let n = decode(raw, &mut value);
-    next_counting(card, cells, spans, chosen, question, &value[..n], from)
+    next_counting(card, kept, chosen, question, &value[..n], from)
 }
 
 // The first entry of a chain that counts for a test.
 fn next_text(
     filter: &[u8],
     card: &Card<'_>,
-    cells: &[u64],
-    spans: &[i64],
+    kept: &Kept,
     chosen: Chosen,
     asked: Asked,
     from: usize,
 ) -> usize
     requires filter_len_bound { length filter.now ≤ 1024 }
-    requires keeps_card { KeepsCard card.now cells.now spans.now }
-    requires on_chain { OnChain card.now cells.now asked.index from }
+    requires keeps_card { KeepsCard card.now kept.now }
+    requires on_chain { OnChain card.now kept.now asked.index from }
     requires known { Known filter.now asked.meaning asked.opened }
-    ensures { FirstFrom (entry_counts chosen asked.meaning (value_of filter.now asked.opened)) card.now cells.now asked.index from result }
+    ensures { FirstFrom (entry_counts chosen asked.meaning (value_of filter.now asked.opened)) card.now kept.now asked.index from result }
 {
     let opened = asked.opened;
     let question = Question {
@@ -85,40 +83,39 @@ fn next_text(
     };
     let value = &filter[usize::from(opened.start)..usize::from(opened.end)];
     if opened.escaped {
-        return next_escaped(value, card, cells, spans, chosen, question, from);
+        return next_escaped(value, card, kept, chosen, question, from);
     }
-    next_counting(card, cells, spans, chosen, question, value, from)
+    next_counting(card, kept, chosen, question, value, from)
 }
 
 // What a test without brackets says of the entries that count.
 fn plain_says(
     filter: &[u8],
     card: &Card<'_>,
-    cells: &[u64],
-    spans: &[i64],
+    kept: &Kept,
     chosen: Chosen,
     probe: Probe,
     value: Option<Opened>,
 ) -> bool
     requires filter_len_bound { length filter.now ≤ 1024 }
-    requires keeps_card { KeepsCard card.now cells.now spans.now }
+    requires keeps_card { KeepsCard card.now kept.now }
     requires index_bound { probe.index < 32 }
-    requires index_value { get_or cells.now (544 + probe.index) 0 ≡ 0 }
-    requires opened_value { value ≡ opened_for (kinds_in cells.now) filter.now probe }
-    ensures { result ≡ probe_says (kinds_in cells.now) filter.now probe (chosen_of chosen (entries_of card.now)) }
+    requires is_kept { IsKept kept.now probe.index }
+    requires opened_value { value ≡ opened_for kept.now.kinds filter.now probe }
+    ensures { result ≡ probe_says kept.now.kinds filter.now probe (chosen_of chosen (entries_of card.now)) }
 {
     let Some(opened) = value else {
         return false;
     };
     let index = probe.index;
-    let meaning = kind::meaning_of(probe.operator, kind_at(cells, spans, index));
+    let meaning = kind::meaning_of(probe.operator, kind_at(kept, index));
     let asked = Asked {
         index,
         meaning,
         opened,
     };
-    let from = chain_of(cells, index);
-    let first = next_text(filter, card, cells, spans, chosen, asked, from);
+    let from = chain_of(kept, index);
+    let first = next_text(filter, card, kept, chosen, asked, from);
     some_says(meaning, opened.truth, first > 0)
 }
 
@@ -130,34 +127,33 @@ fn bracket_says(
     rows: &[u32],
     values: &[Option<Opened>],
     card: &Card<'_>,
-    cells: &[u64],
-    spans: &[i64],
+    kept: &Kept,
     chosen: Chosen,
 ) -> bool
-    requires { Bracketed filter.now rows.now values.now card.now cells.now spans.now }
-    ensures { result ≡ bracket_says (kinds_in cells.now) filter.now rows.now chosen (entries_of card.now) }
+    requires { Bracketed filter.now rows.now values.now card.now kept.now }
+    ensures { result ≡ bracket_says kept.now.kinds filter.now rows.now chosen (entries_of card.now) }
 {
     let Some(opened) = values[0] else {
         return false;
     };
     let probe = probe_of(rows[0] / 8);
     let index = probe.index;
-    let meaning = kind::meaning_of(probe.operator, kind_at(cells, spans, index));
+    let meaning = kind::meaning_of(probe.operator, kind_at(kept, index));
     let asked = Asked {
         index,
         meaning,
         opened,
     };
-    let from = chain_of(cells, index);
-    let mut next = next_text(filter, card, cells, spans, chosen, asked, from);
+    let from = chain_of(kept, index);
+    let mut next = next_text(filter, card, kept, chosen, asked, from);
     while next > 0 {
         let e = next - 1;
-        let own = Some(occurrence_of(cells, e));
-        if rows_say(filter, &rows[1..], &values[1..], card, cells, spans, own) {
+        let own = Some(occurrence_of(kept, e));
+        if rows_say(filter, &rows[1..], &values[1..], card, kept, own) {
             return some_says(meaning, opened.truth, true);
         }
-        let behind = chain_behind(cells, e);
-        next = next_text(filter, card, cells, spans, chosen, asked, behind);
+        let behind = chain_behind(kept, e);
+        next = next_text(filter, card, kept, chosen, asked, behind);
     }
     some_says(meaning, opened.truth, false)
 }
@@ -169,26 +165,25 @@ pub fn rows_say(
     rows: &[u32],
     values: &[Option<Opened>],
     card: &Card<'_>,
-    cells: &[u64],
-    spans: &[i64],
+    kept: &Kept,
     chosen: Chosen,
 ) -> bool
-    requires { Ready filter.now rows.now values.now card.now cells.now spans.now }
-    ensures { result ≡ rows_say (kinds_in cells.now) filter.now (chosen_of chosen (entries_of card.now)) rows.now }
+    requires { Ready filter.now rows.now values.now card.now kept.now }
+    ensures { result ≡ rows_say kept.now.kinds filter.now (chosen_of chosen (entries_of card.now)) rows.now }
 {
     let mut at = 0;
     let mut verdict = false;
     while at < rows.len() {
         match row_of(rows[at]) {
             Row::Test(probe) => {
-                verdict = plain_says(filter, card, cells, spans, chosen, probe, values[at]);
+                verdict = plain_says(filter, card, kept, chosen, probe, values[at]);
                 at += 1;
             }
             Row::Bracket(size) => {
                 let first = at + 1;
                 let end = first + size + 1;
                 let part = &rows[first..end];
-                verdict = bracket_says(filter, part, &values[first..], card, cells, spans, chosen);
+                verdict = bracket_says(filter, part, &values[first..], card, kept, chosen);
                 at = end;
             }
             Row::Not => {

@@ -1,8 +1,9 @@
 -- What holds of a question to the cards of a run, so that each can be judged: the kinds are those of the sheet, and check has passed it.
 -- Assumes nothing.
-use Rattle.std.specs.Prelude.{ℕ, ◌≡◌, ◌≤◌, List, ℤ, length, Option, Ok}
+use Rattle.std.specs.Prelude.{ℕ, ◌≡◌, ◌≤◌, List, length, Option, Ok}
 use Rattle.sheet.specs.Sheet.{parameters_of, read_sheet}
 use Rattle.sheet.specs.Find.{kinds_of}
+use Rattle.card_reader.specs.declared.Kept.{Kept}
 use Rattle.row_judge.specs.Saying.{Whole}
 use Rattle.row_judge.specs.Asking.{LentFor}
 use Rattle.row_opener.specs.Opening.{Opens}
@@ -11,13 +12,13 @@ use Rattle.query.specs.Rows.{RowsWithin}
 use Rattle.query.specs.declared.Rows.{Rows}
 use Rattle.answer.specs.Passing.{Passing}
 
--- by the rows of a filter: they were opened, and the lists are lent for them
-pub record RowsReady (sheet kinds text rows : List ℕ) (values : List (Option Opened)) (cells : List ℕ) (spans : List ℤ) : Type 0 where
+-- by the rows of a filter: they were opened, and what is kept is lent for them
+pub record RowsReady (sheet kinds text rows : List ℕ) (values : List (Option Opened)) (kept : Kept) : Type 0 where
   pub kinds_are : kinds ≡ kinds_of (parameters_of sheet)
   pub short : length text ≤ 1024
   pub whole : Whole rows
   pub opens : Opens kinds text rows values (length rows)
-  pub lent : LentFor kinds rows cells spans
+  pub lent : LentFor kinds rows kept
 
 -- by a filter's text
 pub record TextReady (sheet kinds filter : List ℕ) : Type 0 where

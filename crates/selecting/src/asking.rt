@@ -10,6 +10,7 @@ ghost use Rattle.one_card.specs.OneCard.{verdict_step, cells_question};
 ghost use Rattle.searching.specs.SearchPassing.{rows_question};
 ghost use Rattle.selecting.specs.Asking.{RowsReady, TextReady, SearchReady};
 
+use card_reader::Kept;
 use one_card::{judge_by_rows, judge_by_text};
 use query::Rows;
 use refusal::Reason;
@@ -33,7 +34,7 @@ pub trait Asking {
         ensures same { question self.new ≡ question self.old };
 }
 
-// By the rows of a filter: they are opened once for all cards, in values that are lent, and the lists are lent for them.
+// By the rows of a filter: they are opened once for all cards, in values that are lent, and what is kept is lent for them.
 #[derive(Drop)]
 pub struct ByRows<'a> {
     sheet: &'a Sheet<'a>,
@@ -41,8 +42,7 @@ pub struct ByRows<'a> {
     text: &'a [u8],
     rows: &'a [u32],
     values: &'a [Option<Opened>],
-    cells: [u64; 608],
-    spans: [i64; 128],
+    kept: Kept,
 }
 
 impl<'a> ByRows<'a> {
@@ -55,28 +55,25 @@ impl<'a> ByRows<'a> {
         requires text_len_bound { length text.now ≤ 1024 }
         requires whole { Whole rows.now }
         requires rows_in_bounds { length rows.now ≤ length values.old }
-        ensures ready { RowsReady sheet.now result.kinds text.now rows.now result.values.now result.cells result.spans }
+        ensures ready { RowsReady sheet.now result.kinds text.now rows.now result.values.now result.kept }
         ensures parts { (result.sheet.now ≡ sheet.now) × (result.text.now ≡ text.now) × (result.rows.now ≡ rows.now) }
     {
         let kinds = sheet.kinds();
         open_rows(&kinds, text, rows, values);
-        let mut cells = [0u64; 608];
-        let spans = [0i64; 128];
-        lend_for(&kinds, rows, &mut cells, &spans);
+        let kept = lend_for(&kinds, rows);
         ByRows {
             sheet,
             kinds,
             text,
             rows,
             values,
-            cells,
-            spans,
+            kept,
         }
     }
 }
 
 impl<'a> Asking for ByRows<'a> {
-    ghost ready = { λ asked. RowsReady asked.sheet.now asked.kinds asked.text.now asked.rows.now asked.values.now asked.cells asked.spans };
+    ghost ready = { λ asked. RowsReady asked.sheet.now asked.kinds asked.text.now asked.rows.now asked.values.now asked.kept };
 
     ghost question = { λ asked. cells_question (parameters_of asked.sheet.now) asked.text.now asked.rows.now };
 
@@ -87,8 +84,7 @@ impl<'a> Asking for ByRows<'a> {
             self.rows,
             self.values,
             card,
-            &mut self.cells,
-            &mut self.spans,
+            &mut self.kept,
         )
     }
 }

@@ -15,17 +15,8 @@ entry_counts-requires-clause-holds c = search (passing_holds, rules)
 pub returns-then-entry_counts : goal.returns-then-entry_counts
 returns-then-entry_counts c = search (passing_found, rules)
 
-pub overflow_mul-next : goal.overflow_mul-next
-overflow_mul-next c = search (passing_room, rules)
-
-pub overflow_add-next : goal.overflow_add-next
-overflow_add-next c = search (passing_room, rules)
-
-pub offset_bounds-cells-e : goal.offset_bounds-cells-e
-offset_bounds-cells-e c = search (passing_room, rules)
-
-pub bounds-cells-e : goal.bounds-cells-e
-bounds-cells-e c = search (passing_room, rules)
+pub chain_behind-next-requires : goal.chain_behind-next-requires
+chain_behind-next-requires c = search (passing_room, rules)
 
 pub loop-next-smaller : goal.loop-next-smaller
 loop-next-smaller c = search (passing_less, rules)

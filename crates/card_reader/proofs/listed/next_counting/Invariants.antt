@@ -4,7 +4,7 @@ use Rattle.card_reader.proofs.Chains.{Passing}
 use Rattle.card_reader.proofs.listed.next_counting.Given as goal
 
 abbrev pub invariant-loop-next : goal.invariant-loop-next
-invariant-loop-next l = Passing (entry_counts l.chosen l.question.meaning l.value) l.card l.cells l.question.index l.from l.next
+invariant-loop-next l = Passing (entry_counts l.chosen l.question.meaning l.value) l.card l.kept l.question.index l.from l.next
 
 abbrev pub decreases-loop-next : goal.decreases-loop-next
 decreases-loop-next l = l.next

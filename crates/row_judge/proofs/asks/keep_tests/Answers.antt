@@ -12,7 +12,7 @@ pub keep-requires : goal.keep-requires
 keep-requires c = search (test_index, rules)
 
 pub loop-cell-preserved : goal.loop-cell-preserved
-loop-cell-preserved c = elim c.match-row_of.branch [ in-Test w ↦ rw w.cells-is (kept_test _ _ _ _ _ c.loop-cell.invariant _ c.row_of.ensures _ _ w.in-Test.is w.keep.ensures) | in_default w ↦ search (kept_none, rules) ]
+loop-cell-preserved c = elim c.match-row_of.branch [ in-Test w ↦ rw w.kept-is (kept_test _ _ _ _ c.loop-cell.invariant _ c.row_of.ensures _ _ w.in-Test.is w.keep.ensures) | in_default w ↦ search (kept_none, rules) ]
 
 pub returns : goal.returns
 returns c = search (kept_end, rules)

@@ -3,4 +3,4 @@ use Rattle.row_judge.proofs.Asking.{KeptTo}
 use Rattle.row_judge.proofs.asks.keep_tests.Given as goal
 
 abbrev pub invariant-loop-cell : goal.invariant-loop-cell
-invariant-loop-cell l = KeptTo l.rows l.initial.cells l.cells l.spans l.cell-index
+invariant-loop-cell l = KeptTo l.rows l.initial.kept l.kept l.cell-index

@@ -6,7 +6,7 @@ use mathlib.Core.Path.{refl}
 use lib.ListN.{length, drop, length-drop}
 use lib.Seq.{length-take-le}
 use Rattle.rows.proofs.Cells.{test_index}
-use Rattle.row_judge.proofs.Saying.{brackets_start, brackets_end, brackets_size, brackets_room, brackets_byte, brackets_yes, brackets_behind, brackets_less, brackets_next, telling_start, telling_end, step_test, step_not, step_connect, step_unknown, bracket_room, part-size, bracket_ready, step_bracket, ready-value, ready_test, ready_kept, bracketed_value, bracketed_inner, bracketed_index, bracketed_chain, bracket_known, bracket_closed}
+use Rattle.row_judge.proofs.Saying.{brackets_start, brackets_end, brackets_lent, brackets_room, brackets_yes, brackets_behind, brackets_less, brackets_next, telling_start, telling_end, step_test, step_not, step_connect, step_unknown, bracket_room, part-size, bracket_ready, step_bracket, ready-value, ready_test, ready_kept, bracketed_value, bracketed_inner, bracketed_index, bracketed_chain, bracket_known, bracket_closed}
 use Rattle.row_judge.proofs.says.+saying.Goals as goal
 
 pub bracket_says-bounds-values-0 : goal.bracket_says-bounds-values-0
@@ -27,14 +27,11 @@ bracket_says-next_text-next-requires-clause-known t c = search (bracket_known, r
 pub bracket_says-loop-next-init : goal.bracket_says-loop-next-init
 bracket_says-loop-next-init t c = search (brackets_start, rules)
 
-pub bracket_says-occurrence_of-requires-clause-cells_len : goal.bracket_says-occurrence_of-requires-clause-cells_len
-bracket_says-occurrence_of-requires-clause-cells_len t c = search (brackets_size, rules)
+pub bracket_says-occurrence_of-requires-clause-lent : goal.bracket_says-occurrence_of-requires-clause-lent
+bracket_says-occurrence_of-requires-clause-lent t c = search (brackets_lent, rules)
 
 pub bracket_says-occurrence_of-requires-clause-e_bound : goal.bracket_says-occurrence_of-requires-clause-e_bound
 bracket_says-occurrence_of-requires-clause-e_bound t c = search (brackets_room, rules)
-
-pub bracket_says-occurrence_of-requires-clause-e_bound_2 : goal.bracket_says-occurrence_of-requires-clause-e_bound_2
-bracket_says-occurrence_of-requires-clause-e_bound_2 t c = search (brackets_byte, rules)
 
 pub bracket_says-slice_bounds-rows_say-count-in-loop-next : goal.bracket_says-slice_bounds-rows_say-count-in-loop-next
 bracket_says-slice_bounds-rows_say-count-in-loop-next t c = search (bracketed_value, rules)
@@ -48,23 +45,23 @@ bracket_says-rows_say-requires t c = (omega (arith, c.decreases, c.requires.some
 pub bracket_says-returns-then-rows_say : goal.bracket_says-returns-then-rows_say
 bracket_says-returns-then-rows_say t c = search (brackets_yes, rules)
 
-pub bracket_says-chain_behind-behind-requires-clause-cells_len : goal.bracket_says-chain_behind-behind-requires-clause-cells_len
-bracket_says-chain_behind-behind-requires-clause-cells_len t c = search (brackets_size, rules)
+pub bracket_says-chain_behind-behind-requires-clause-lent : goal.bracket_says-chain_behind-behind-requires-clause-lent
+bracket_says-chain_behind-behind-requires-clause-lent t c = search (brackets_lent, rules)
 
 pub bracket_says-chain_behind-behind-requires-clause-e_bound : goal.bracket_says-chain_behind-behind-requires-clause-e_bound
 bracket_says-chain_behind-behind-requires-clause-e_bound t c = search (brackets_room, rules)
 
 pub bracket_says-next_text-next-requires-in-loop-next-clause-on_chain : goal.bracket_says-next_text-next-requires-in-loop-next-clause-on_chain
-bracket_says-next_text-next-requires-in-loop-next-clause-on_chain t c = brackets_behind _ _ _ _ _ _ _ _ _ _ _ c.loop-next.invariant c.loop-next-test.true _ c.chain_behind-behind.ensures
+bracket_says-next_text-next-requires-in-loop-next-clause-on_chain t c = brackets_behind _ _ _ _ _ _ _ _ _ _ c.loop-next.invariant c.loop-next-test.true _ c.chain_behind-behind.ensures
 
 pub bracket_says-next_text-next-requires-in-loop-next-clause-known : goal.bracket_says-next_text-next-requires-in-loop-next-clause-known
 bracket_says-next_text-next-requires-in-loop-next-clause-known t c = c.loop-next.invariant.known
 
 pub bracket_says-loop-next-smaller : goal.bracket_says-loop-next-smaller
-bracket_says-loop-next-smaller t c = brackets_less _ _ _ _ _ _ _ _ _ _ _ c.loop-next.invariant c.loop-next-test.true _ c.chain_behind-behind.ensures _ c.next_text-next-in-loop-next.ensures
+bracket_says-loop-next-smaller t c = brackets_less _ _ _ _ _ _ _ _ _ _ c.loop-next.invariant c.loop-next-test.true _ c.chain_behind-behind.ensures _ c.next_text-next-in-loop-next.ensures
 
 pub bracket_says-loop-next-preserved : goal.bracket_says-loop-next-preserved
-bracket_says-loop-next-preserved t c = brackets_next _ _ _ _ _ _ _ _ _ _ _ c.loop-next.invariant c.loop-next-test.true _ c.occurrence_of.ensures _ c.rows_say.ensures _ c.chain_behind-behind.ensures _ c.next_text-next-in-loop-next.ensures c.if-rows_say.false
+bracket_says-loop-next-preserved t c = brackets_next _ _ _ _ _ _ _ _ _ _ c.loop-next.invariant c.loop-next-test.true _ c.occurrence_of.ensures _ c.rows_say.ensures _ c.chain_behind-behind.ensures _ c.next_text-next-in-loop-next.ensures c.if-rows_say.false
 
 pub bracket_says-returns : goal.bracket_says-returns
 bracket_says-returns t c = search (brackets_end, rules)
@@ -87,8 +84,8 @@ rows_say-plain_says-verdict-requires-clause-keeps_card t c = c.requires.keeps
 pub rows_say-plain_says-verdict-requires-clause-index_bound : goal.rows_say-plain_says-verdict-requires-clause-index_bound
 rows_say-plain_says-verdict-requires-clause-index_bound t c = test_index _ _ _ c.row_of.ensures c.in-Test.is
 
-pub rows_say-plain_says-verdict-requires-clause-index_value : goal.rows_say-plain_says-verdict-requires-clause-index_value
-rows_say-plain_says-verdict-requires-clause-index_value t c = ready_kept c.requires _ c.loop-at-test.true _ c.row_of.ensures _ c.in-Test.is
+pub rows_say-plain_says-verdict-requires-clause-is_kept : goal.rows_say-plain_says-verdict-requires-clause-is_kept
+rows_say-plain_says-verdict-requires-clause-is_kept t c = ready_kept c.requires _ c.loop-at-test.true _ c.row_of.ensures _ c.in-Test.is
 
 pub rows_say-plain_says-verdict-requires-clause-opened_value : goal.rows_say-plain_says-verdict-requires-clause-opened_value
 rows_say-plain_says-verdict-requires-clause-opened_value t c = ready_test c.requires _ c.loop-at-test.true _ c.row_of.ensures _ c.in-Test.is _ refl

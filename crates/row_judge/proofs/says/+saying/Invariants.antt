@@ -6,7 +6,6 @@ use Prim.Native.Nat.{◌+◌, ◌*◌, ◌-◌}
 use lib.ListN.{length}
 use Rattle.card.specs.Card.{entries_of}
 use Rattle.judge.specs.Sets.{chosen_of}
-use Rattle.card_reader.specs.Lists.{kinds_in}
 use Rattle.row_judge.specs.Saying.{rows_say}
 use Rattle.row_judge.proofs.Saying.{Brackets, Telling}
 use Rattle.row_judge.proofs.says.+saying.Given as goal
@@ -18,11 +17,11 @@ abbrev pub decreases-rows_say : goal.decreases-rows_say
 decreases-rows_say l = 2 * length l.rows.now
 
 abbrev pub invariant-bracket_says-loop-next : goal.invariant-bracket_says-loop-next
-invariant-bracket_says-loop-next l = Brackets l.filter l.rows l.values l.card l.cells l.spans l.chosen l.index l.meaning l.opened l.next
+invariant-bracket_says-loop-next l = Brackets l.filter l.rows l.values l.card l.kept l.chosen l.index l.meaning l.opened l.next
 
 abbrev pub invariant-rows_say-loop-at : goal.invariant-rows_say-loop-at
 invariant-rows_say-loop-at l =
-    Telling (kinds_in l.cells) l.filter l.rows l.chosen (entries_of l.card) (rows_say (kinds_in l.cells) l.filter (chosen_of l.chosen (entries_of l.card)) l.rows) l.at l.verdict
+    Telling l.kept.kinds l.filter l.rows l.chosen (entries_of l.card) (rows_say l.kept.kinds l.filter (chosen_of l.chosen (entries_of l.card)) l.rows) l.at l.verdict
 
 abbrev pub decreases-bracket_says-loop-next : goal.decreases-bracket_says-loop-next
 decreases-bracket_says-loop-next l = l.next
