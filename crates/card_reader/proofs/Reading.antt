@@ -29,7 +29,7 @@ use Rattle.judge.specs.Sets.{conforms_to}
 use Rattle.judge.proofs.Entries.{past_readable, conforms-next, conforms_not, conforms_end}
 use Rattle.card_reader.specs.Readings.{Serves}
 use Rattle.card_reader.specs.Lists.{Lent, none_kept, no_entry, Holds, Last, IsKept, HoldsTo, BeginsAlike, ReadsCard}
-use Rattle.card_reader.specs.Storing.{kept_of, Stored, Begun, TakesAs, Takes}
+use Rattle.card_reader.specs.Storing.{Stored, Begun, TakesAs, Takes}
 use Rattle.card_reader.specs.declared.Kept.{Kept}
 use Rattle.card_reader.specs.declared.KeptEntry.{KeptEntry}
 use Rattle.card_reader.specs.declared.TextReading.{TextReading}

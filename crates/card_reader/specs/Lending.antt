@@ -1,6 +1,6 @@
 -- What is kept, as it is lent for a run.
 -- Assumes nothing.
-use Rattle.std.specs.Prelude.{ℕ, ◌<◌, ◌≡◌, List}
+use Rattle.std.specs.Prelude.{ℕ, ◌≡◌, List}
 use Rattle.card_reader.specs.Lists.{Lent, IsKept}
 use Rattle.card_reader.specs.declared.Kept.{Kept}
 

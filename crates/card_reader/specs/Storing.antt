@@ -7,7 +7,7 @@ use Rattle.card.specs.Card.{Entry, entry}
 use Rattle.block.specs.declared.walker.Item.{Item}
 use Rattle.kind.specs.Readable.{card_readable}
 use Rattle.card_reader.specs.Readings.{Serves}
-use Rattle.card_reader.specs.Lists.{Lent, no_entry, IsKept, HoldsTo, BeginsAlike}
+use Rattle.card_reader.specs.Lists.{Lent, no_entry, HoldsTo, BeginsAlike}
 use Rattle.card_reader.specs.declared.Kept.{Kept}
 use Rattle.card_reader.specs.declared.KeptEntry.{KeptEntry}
 use Rattle.card_reader.specs.declared.TextReading.{TextReading}

@@ -13,7 +13,6 @@ use mathlib.Core.Option as maybe
 use mathlib.Core.Option.{none, some, none-ne-some, some-injective}
 use mathlib.Core.List.{List, [], ◌∷◌, ◌++◌, append-nil, append_assoc}
 use lib.Dec.{eqb, ltb}
-use lib.IntN.{ℤ}
 use lib.ListN.{length, get_or, take, drop, length-take, length-drop}
 use lib.Seq.{get_or-take, get_or-drop, take_all, take-append_seam, drop-cons, drop-drop, drop-length}
 use Rattle.std.proofs.lemmas.Option.{none-some, same_Some}

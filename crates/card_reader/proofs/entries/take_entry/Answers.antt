@@ -10,7 +10,7 @@ pub returns-then-i-ge32 : goal.returns-then-i-ge32
 returns-then-i-ge32 c = search (takes_past, rules)
 
 pub returns-then-not-kept-i : goal.returns-then-not-kept-i
-returns-then-not-kept-i c = search (takes_over, not-true, rules)
+returns-then-not-kept-i c = search (takes_over, rules)
 
 pub returns-in-Some-Number : goal.returns-in-Some-Number
 returns-in-Some-Number c = let own = sym c.in-Some-Number.ensures ∙ ap kind_number c.in-Some-Number.field-0-is in search (takes_as, own, rules)

@@ -2,7 +2,7 @@
 use borrow.Author.Rules.{rules}
 use borrow.Author.Tests.{not-true}
 use Rattle.judge.proofs.Once.{once_kept}
-use Rattle.card_reader.proofs.Chains.{holds_serves, holds_order, entry_not, entry_text}
+use Rattle.card_reader.proofs.Chains.{holds_serves, entry_not, entry_text}
 use Rattle.card_reader.proofs.listed.entry_counts.Goals as goal
 
 pub reading_counts-requires : goal.reading_counts-requires
