@@ -45,9 +45,9 @@ use Rattle.card_reader.specs.Lists.{Lent, none_kept, no_entry, IsKept, KeepsCard
 use Rattle.card_reader.specs.declared.Kept.{Kept}
 use Rattle.card_reader.specs.Listed.{entry_counts, some_before, OnChain, FirstFrom}
 use Rattle.card_reader.proofs.Chains.{before_cons, chain_begins, chain_all, chain_holds, chain_room, chain_less, chain_on, chain_step, some_first}
-use Rattle.row_opener.specs.Opening.{opened_value, opened_by, opened_for, opened_in, opened_row, value_of, Known}
+use Rattle.row_opener.specs.Opening.{readings_in, opened_value, opened_by, opened_for, opened_in, opened_row, value_of, Known}
 use Rattle.row_opener.specs.declared.Opened.{Opened}
-use Rattle.row_opener.proofs.Opening.{opens_second}
+use Rattle.row_opener.proofs.Opening.{opens_second, opened_reads}
 use Rattle.row_judge.specs.Saying.{probe_says_by, probe_says, expression_says, stated_says, rows_say, Whole, AllKept, Ready, Bracketed, decides, skipped, some_entry, occurrence_says, probe_says_each_by, probe_says_each, bracket_says}
 
 -- ---- entry by entry is by the set of the entries that are kept
@@ -228,7 +228,7 @@ module _ (kinds xs : List ℕ) (p : Probe) (c : Option Opened) (e : c ≡ opened
             same_Some _ _ (sym h ∙ e ∙ ap (opened_by xs (meaning_of p.operator (get_or kinds p.index 0))) i) in
             let q : PlacedValue xs v = value-at-placed xs p.position (value_at xs p.position) v refl i in
             record {
-              known = record { order = rw is q.order; within = rw is q.within; read = rw is };
+              known = record { order = rw is q.order; within = rw is q.within; read = rw is (opened_reads (meaning_of p.operator (get_or kinds p.index 0)) v (value_in xs v)) };
               value = v;
               found = i;
               same = rw is;
@@ -281,11 +281,11 @@ module _ (xs : List ℕ) (m : Meaning) (o : Opened) (w : Known xs m o) where
   plain_value_lem h = ap (λ (b : Bool). contents b (part xs o.start o.end)) (sym h)
 
   module _ (a b : ℕ) (s : a ≡ o.start) (t : b ≡ o.end) where
-    pub escaped-read : o.escaped ≡ true → o.readings ≡ readings_for m (decode false (part xs a b))
-    escaped-read h = w.read ∙ ap (readings_for m) (sym (escaped-value h) ∙ rw (s, t))
+    pub escaped-read : (r : Readings) → r ≡ readings_in o.reading → o.escaped ≡ true → r ≡ readings_for m (decode false (part xs a b))
+    escaped-read r q h = q ∙ w.read ∙ ap (readings_for m) (sym (escaped-value h) ∙ rw (s, t))
 
-    pub plain-read : o.escaped ≡ false → o.readings ≡ readings_for m (part xs a b)
-    plain-read h = w.read ∙ ap (readings_for m) (sym (plain_value_lem h) ∙ rw (s, t))
+    pub plain-read : (r : Readings) → r ≡ readings_in o.reading → o.escaped ≡ false → r ≡ readings_for m (part xs a b)
+    plain-read r q h = q ∙ w.read ∙ ap (readings_for m) (sym (plain_value_lem h) ∙ rw (s, t))
 
     module _ (k : Chosen) (card : List ℕ) (kept : Kept) (i from r : ℕ) where
       pub escaped-first : o.escaped ≡ true → FirstFrom (entry_counts k m (decode false (part xs a b))) card kept i from r → FirstFrom (entry_counts k m (value_of xs o)) card kept i from r

@@ -15,7 +15,7 @@ use card::Card;
 use crate::Asked;
 use card_reader::{Kept, Question, chain_behind, chain_of, kind_at, next_counting, occurrence_of};
 use judge::{Chosen, some_says};
-use row_opener::Opened;
+use row_opener::{Opened, readings_in};
 use rows::{Probe, Row, probe_of, row_of};
 use syntax::Connective;
 use syntax::value::decode;
@@ -79,7 +79,7 @@ fn next_text(
     let question = Question {
         index: asked.index,
         meaning: asked.meaning,
-        readings: opened.readings,
+        readings: readings_in(opened.reading),
     };
     let value = &filter[usize::from(opened.start)..usize::from(opened.end)];
     if opened.escaped {

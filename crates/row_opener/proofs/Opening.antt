@@ -11,6 +11,9 @@ use mathlib.Core.List.{List}
 use lib.Dec.{eqb}
 use lib.ListN.{length, get_or, take, drop, set, length-set, length-drop}
 use lib.Seq.{get_or-set_same, get_or-set_other, get_or-take, get_or-drop, take_all}
+use Rattle.std.proofs.lemmas.Option.{none-some}
+use Rattle.number.specs.declared.Decimal.{Decimal}
+use Rattle.date.specs.declared.Date.{Date}
 use Rattle.base.specs.Parts.{part}
 use Rattle.base.proofs.Parts.{part_length}
 use borrow.Author.Tests.{le-ltb, eqb-true, eqb-false}
@@ -20,12 +23,15 @@ use Rattle.syntax.specs.declared.Connective.{Connective}
 use Rattle.syntax.specs.declared.RawValue.{RawValue}
 use Rattle.kind.specs.Table.{meaning_of}
 use Rattle.kind.specs.Readable.{is_true}
+use Rattle.kind.specs.Relations.{readings_of}
+use Rattle.kind.specs.declared.Relation.{Relation}
 use Rattle.kind.specs.declared.Readings.{Readings}
 use Rattle.kind.specs.declared.Meaning.{Meaning}
 use Rattle.judge.specs.Once.{readings_for}
 use Rattle.rows.specs.Cells.{row_of}
 use Rattle.rows.specs.Shapes.{value_in}
-use Rattle.row_opener.specs.Opening.{opened_value, opened_for, opened_row, Opens}
+use Rattle.row_opener.specs.Opening.{reading_by, reading_of, readings_in, opened_value, opened_for, opened_row, Opens}
+use Rattle.row_opener.specs.declared.ValueReading.{ValueReading}
 use Rattle.rows.specs.declared.Probe.{Probe}
 use Rattle.rows.specs.declared.Row.{Row}
 use Rattle.row_opener.specs.declared.Opened.{Opened}
@@ -67,12 +73,50 @@ module _ (kinds xs rows : List ℕ) (values : List (Option Opened)) where
         let all : i ≡ length rows = omega (arith, l, s.within) in
         subst (λ (n : ℕ). Opens kinds xs rows values n) all s.opens
 
+-- ---- what a value reads to
+
+abbrev readings : Option Decimal → Option Date → Readings
+readings n d = record { number = n; date = d }
+
+-- what reads to a number is not read as a date
+abbrev Alone : Readings → Type 0
+Alone r = (a : Decimal) → r.number ≡ Some a → r.date ≡ None
+
+none_alone : (d : Option Date) → Alone (readings None d)
+none_alone d a h = absurd (none-some a h)
+
+relation_alone : (r : Relation) (w : List ℕ) → Alone (readings_of r w)
+unfolding readings_of
+relation_alone (Relation.Strings r) w = none_alone None
+relation_alone (Relation.Numbers r) w = λ a h. refl
+relation_alone (Relation.Dates r) w = none_alone (readings_of (Relation.Dates r) w).date
+relation_alone Relation.Tokens w = none_alone None
+relation_alone Relation.References w = none_alone None
+
+meaning_alone : (m : Meaning) (w : List ℕ) → Alone (readings_for m w)
+unfolding readings_for
+meaning_alone Meaning.Present w = none_alone None
+meaning_alone (Meaning.Relates r) w = relation_alone r w
+meaning_alone (Meaning.Differs r) w = relation_alone r w
+meaning_alone Meaning.Nothing w = none_alone None
+
+-- so one reading says what both say
+reading_back : (n : Option Decimal) (d : Option Date) → Alone (readings n d) → readings_in (reading_by n d) ≡ readings n d
+unfolding readings_in
+reading_back (Some a) d s = ap (λ (e : Option Date). readings (Some a) e) (sym (s a refl))
+reading_back None (Some d) s = refl
+reading_back None None s = refl
+
+pub opened_reads : (m : Meaning) (v : RawValue) (w : List ℕ) → readings_in (opened_value m v w).reading ≡ readings_for m w
+unfolding opened_value reading_of
+opened_reads m v w = reading_back (readings_for m w).number (readings_for m w).date (meaning_alone m w)
+
 -- ---- the functions that open a value
 
-pub value_is : (m : Meaning) (v : RawValue) (w : List ℕ) (t : Bool) (r : Readings) → t ≡ is_true w → r ≡ readings_for m w
-    → ◌≡◌ {A = Opened} (record { escaped = v.escaped; truth = t; start = v.start; end = v.end; readings = r }) (opened_value m v w)
+pub value_is : (m : Meaning) (v : RawValue) (w : List ℕ) (t : Bool) (r : Readings) (q : ValueReading) → t ≡ is_true w → r ≡ readings_for m w → q ≡ reading_of r
+    → ◌≡◌ {A = Opened} (record { escaped = v.escaped; truth = t; start = v.start; end = v.end; reading = q }) (opened_value m v w)
 unfolding opened_value
-value_is m v w t r e h = rw (e, h)
+value_is m v w t r q e h k = rw (e, k, h)
 
 pub text_placed : (m : Meaning) (xs : List ℕ) (v : RawValue) (o : Opened) (w : List ℕ) → o ≡ opened_value m v w → w ≡ value_in xs v → o ≡ opened_value m v (value_in xs v)
 text_placed m xs v o w e h = e ∙ ap (opened_value m v) h

@@ -13,12 +13,31 @@ use Rattle.rows.specs.Shapes.{value_in}
 use Rattle.rows.specs.declared.Probe.{Probe}
 use Rattle.rows.specs.declared.Row.{Row}
 use Rattle.row_opener.specs.declared.Opened.{Opened}
+use Rattle.row_opener.specs.declared.ValueReading.{ValueReading}
+use Rattle.number.specs.declared.Decimal.{Decimal}
+use Rattle.date.specs.declared.Date.{Date}
+use Rattle.kind.specs.declared.Readings.{Readings}
+
+-- ---- what it reads to
+
+abbrev pub reading_by : Option Decimal → Option Date → ValueReading
+reading_by (Some n) d = ValueReading.Number n
+reading_by None (Some d) = ValueReading.Date d
+reading_by None None = ValueReading.Bytes
+
+unfoldable pub reading_of : Readings → ValueReading
+reading_of r = reading_by r.number r.date
+
+unfoldable pub readings_in : ValueReading → Readings
+readings_in (ValueReading.Number n) = record { number = Some n; date = None }
+readings_in (ValueReading.Date d) = record { number = None; date = Some d }
+readings_in ValueReading.Bytes = record { number = None; date = None }
 
 -- ---- the value of a test
 
 -- of a value of the text with these bytes
 unfoldable pub opened_value : Meaning → RawValue → List ℕ → Opened
-opened_value m v w = record { escaped = v.escaped; truth = is_true w; start = v.start; end = v.end; readings = readings_for m w }
+opened_value m v w = record { escaped = v.escaped; truth = is_true w; start = v.start; end = v.end; reading = reading_of (readings_for m w) }
 
 abbrev pub opened_by : List ℕ → Meaning → Option RawValue → Option Opened
 opened_by xs m (Some v) = Some (opened_value m v (value_in xs v))
@@ -46,7 +65,7 @@ value_of xs o = contents o.escaped (part xs o.start o.end)
 pub record Known (xs : List ℕ) (m : Meaning) (o : Opened) : Type 0 where
   pub order : o.start ≤ o.end
   pub within : o.end ≤ length xs
-  pub read : o.readings ≡ readings_for m (value_of xs o)
+  pub read : readings_in o.reading ≡ readings_for m (value_of xs o)
 
 -- ---- the list of the values, by row
 

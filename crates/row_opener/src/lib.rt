@@ -3,10 +3,19 @@
 
 mod store;
 
-use kind::Readings;
-pub use store::open_rows;
+use date::Date;
+use number::Decimal;
+pub use store::{open_rows, readings_in};
 
-// What the value of a test reads to: whether it has escapes; whether it is true, for pr; where its bytes stand in the text; and what they
+// What the value of a test reads to: its bytes alone, a number, or a date. It takes half as much memory as what a reading says of both.
+#[derive(Clone, Copy)]
+pub enum ValueReading {
+    Bytes,
+    Number(Decimal),
+    Date(Date),
+}
+
+// What is known of the value of a test: whether it has escapes; whether it is true, for pr; where its bytes stand in the text; and what they
 // read to.
 #[derive(Clone, Copy)]
 pub struct Opened {
@@ -14,5 +23,5 @@ pub struct Opened {
     pub truth: bool,
     pub start: u16,
     pub end: u16,
-    pub readings: Readings,
+    pub reading: ValueReading,
 }

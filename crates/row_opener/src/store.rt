@@ -2,14 +2,49 @@
 ghost use Rattle.std.specs.Prelude.{◌≡◌, ◌≤◌, ◌<◌, length};
 ghost use Rattle.syntax.specs.Placed.{PlacedValue};
 ghost use Rattle.rows.specs.Shapes.{value_in};
-ghost use Rattle.row_opener.specs.Opening.{opened_value, opened_for, opened_row, Opens};
+ghost use Rattle.row_opener.specs.Opening.{reading_of, readings_in, opened_value, opened_for, opened_row, Opens};
 
-use crate::Opened;
+use crate::{Opened, ValueReading};
 use judge::readings_for;
-use kind::Meaning;
+use kind::{Meaning, Readings};
 use rows::{Probe, Row, row_of};
 use syntax::RawValue;
 use syntax::value::{decode, read_value};
+
+// ---- what it reads to
+
+// What reads to a number is not read as a date.
+#[tactic(auto, unfolding(crate::specs::Opening::reading_of))]
+fn reading_of(readings: Readings) -> ValueReading
+    ensures { result ≡ reading_of readings }
+{
+    match (readings.number, readings.date) {
+        (Some(n), _) => ValueReading::Number(n),
+        (None, Some(d)) => ValueReading::Date(d),
+        (None, None) => ValueReading::Bytes,
+    }
+}
+
+// What a reading says, as judging asks it.
+#[tactic(auto, unfolding(crate::specs::Opening::readings_in))]
+pub fn readings_in(reading: ValueReading) -> Readings
+    ensures { result ≡ readings_in reading }
+{
+    match reading {
+        ValueReading::Number(n) => Readings {
+            number: Some(n),
+            date: None,
+        },
+        ValueReading::Date(d) => Readings {
+            number: None,
+            date: Some(d),
+        },
+        ValueReading::Bytes => Readings {
+            number: None,
+            date: None,
+        },
+    }
+}
 
 // ---- the value of a test
 
@@ -24,7 +59,7 @@ fn opened_value(meaning: Meaning, value: RawValue, bytes: &[u8]) -> Opened
         truth: kind::is_true(bytes),
         start: value.start as u16,
         end: value.end as u16,
-        readings: readings_for(meaning, bytes),
+        reading: reading_of(readings_for(meaning, bytes)),
     }
 }
 
