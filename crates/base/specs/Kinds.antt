@@ -1,4 +1,4 @@
--- The kinds and their numbers, as a sheet writes them.
+-- The numbers of the kinds, as a sheet writes them.
 -- Assumes nothing.
 use Rattle.std.specs.Prelude.{ℕ, ◌≡◌, Option, MatchOption}
 use Rattle.base.specs.declared.kind.Kind.{Kind}

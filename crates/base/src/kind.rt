@@ -1,7 +1,7 @@
 // The kinds of parameters, each with the number that a sheet writes for it.
 ghost use Rattle.base.specs.Kinds.{KindOf};
 
-#[derive(Clone, Copy, PartialEq, Eq)]
+#[derive(Clone, Copy)]
 pub enum Kind {
     String = 1,
     Number = 2,

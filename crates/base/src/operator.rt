@@ -1,7 +1,7 @@
 // The operators, each with its number, in the order of the R4 page's table.
 ghost use Rattle.base.specs.Operators.{OperatorOf};
 
-#[derive(Clone, Copy, PartialEq, Eq)]
+#[derive(Clone, Copy)]
 pub enum Operator {
     Eq = 0,
     Ne = 1,

@@ -5,18 +5,15 @@
 -- the cases of the meaning, and by induction on the set only where there is no meaning.
 -- Assumes nothing.
 use Rattle.std.specs.Prelude.{Ok, Result, ⊤, Option, None, Some}
-use Prim.Native.Nat.{ℕ, ◌≤◌, ◌<◌}
-use native.Mathlib.Omega.{arith}
+use Prim.Native.Nat.{ℕ}
 use mathlib.Core.Path.{◌≡◌, refl, sym, ap, ap₂, ◌∙◌}
-use mathlib.Core.Bool.{Bool, true, false, cond, not, ◌||◌, not-not}
+use mathlib.Core.Bool.{Bool, true, false, cond, not, not-not}
 use mathlib.Core.List.{List, [], ◌∷◌}
-use lib.Dec.{eqb, leb}
+use lib.Dec.{eqb}
 use lib.ListN.{take}
-use borrow.Author.Tests.{ne_eqb, le-leb, not-true}
+use borrow.Author.Tests.{ne_eqb}
 use Rattle.base.specs.Lists.{member}
 use Rattle.base.specs.Parts.{part}
-use Rattle.base.specs.Below.{passes}
-use Rattle.base.proofs.Below.{passes_at}
 use Rattle.base.specs.Kinds.{bundle_kind}
 use Rattle.base.specs.Operators.{operator_number}
 use Rattle.base.specs.declared.operator.Operator.{Operator}

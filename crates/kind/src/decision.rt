@@ -99,9 +99,8 @@ fn kind_meaning(operator: Operator, kind: Kind) -> Meaning
     }
 }
 
-// What an operator means for a kind, each by its number. It is part of its callers, which saves each card a call.
+// What an operator means for a kind, each by its number.
 #[tactic(auto, using(crate::proofs::Table::no_operator, crate::proofs::Table::no_kind, crate::proofs::Table::present, crate::proofs::Table::of_row))]
-#[inline(always)]
 pub fn meaning_of(operator: u8, kind: u8) -> Meaning
     ensures { result ≡ meaning_of operator kind }
 {

@@ -7,19 +7,16 @@
 use Rattle.std.specs.Prelude.{Option, Some, None}
 use Prim.Native.Nat.{ℕ, ◌+◌, ◌≤◌, ◌<◌}
 use native.Mathlib.Omega.{arith}
-use mathlib.Core.Path.{◌≡◌, refl, ap, sym, ◌∙◌, subst}
-use mathlib.Core.Bool.{Bool, true, false, cond, not, ◌||◌}
+use mathlib.Core.Path.{◌≡◌, refl, ap, sym, ◌∙◌}
+use mathlib.Core.Bool.{Bool, true, false}
 use mathlib.Core.Logic.{⊎_elim}
 use mathlib.Core.List.{List, ◌++◌}
-use lib.Dec.{eqb, leb}
 use lib.ListN.{length, drop, length-append}
 use lib.Seq.{drop-append-add}
-use borrow.Author.Tests.{eq-eqb, ne_eqb, le-leb, not-true}
+use borrow.Author.Tests.{ne_eqb}
 use Rattle.base.specs.Lists.{member, All, all_empty, all_cons}
 use Rattle.base.specs.Affixes.{has_prefix}
-use Rattle.base.specs.Below.{passes}
 use Rattle.base.specs.Operators.{operator_words, eq, ne, gt, lt, ge, le, sa, eb, re, operator_number}
-use Rattle.base.proofs.Below.{passes_at}
 use Rattle.base.proofs.Tests.{decided, both_ways}
 use Rattle.base.specs.Kinds.{string, number, date, token, period, kind_number}
 use Rattle.base.specs.declared.kind.Kind.{Kind}

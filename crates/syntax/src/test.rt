@@ -11,8 +11,8 @@ use crate::value::read_value;
 use base::name::{is_name_start, is_reserved};
 use base::operator::Operator;
 
-// The operator at a position. The words stand in one text outside the loop, since a text in the code is copied each time it is
-// come to; two letters are compared as one number, which takes half the instructions.
+// The operator at a position, by the number that a test keeps: the words are counted. They stand in one text outside the loop, since a
+// text in the code is copied each time it is come to; two letters are compared as one number, which takes half the instructions.
 pub fn read_operator(s: &[u8], at: usize) -> Option<u8>
     requires { at ≤ length s.now }
     ensures { result ≡ operator_at s.now at }
