@@ -17,7 +17,6 @@ use Rattle.base.specs.Parts.{part}
 use mathlib.Core.Logic.{⊎_elim}
 use Rattle.base.proofs.Tests.{and_left, and_right, or_either}
 use Rattle.block.specs.Items.{zeros, has_marks, length_at, next, mark_at, text_at, laid_out, has_layout, has_either, items, PlaceAt, Walk, LaysOut}
-use Rattle.block.specs.declared.Place.{Place}
 use Rattle.block.proofs.Invariants.{LaidTo}
 
 -- ---- what the functions that look at a layout answer

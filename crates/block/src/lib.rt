@@ -4,7 +4,7 @@
 mod columns;
 mod walker;
 
-ghost use Rattle.std.specs.Prelude.{◌≡◌, ◌&&◌, ◌+◌, ◌≤◌, ◌<◌, eqb, length};
+ghost use Rattle.std.specs.Prelude.{◌≡◌, ◌&&◌, ◌+◌, ◌≤◌, ◌<◌, length};
 ghost use Rattle.block.specs.Words.{word};
 ghost use Rattle.block.specs.Seal.{HasSize, check};
 ghost use Rattle.block.specs.Items.{zeros, has_marks, laid_out, has_layout, has_either, PlaceAt, LaysOut};

@@ -3,7 +3,6 @@
 -- (`before_last`), so a walk goes from each entry of the chain to the one behind it. Asked of all entries it is what a test asks
 -- (`before_all`).
 -- Assumes nothing.
-use Rattle.std.specs.Prelude.{Ok}
 use Prim.Native.Nat.{ℕ, zero, suc, ◌+◌, ◌-◌, ◌≤◌, ◌<◌}
 use native.Mathlib.Nat.{eq-or-lt_of_le}
 use native.Mathlib.Numerals.{add-one}

@@ -1,5 +1,5 @@
 // What is kept, as it is lent for a run.
-ghost use Rattle.std.specs.Prelude.{◌≡◌, ◌<◌, length, get_or};
+ghost use Rattle.std.specs.Prelude.{◌≡◌, ◌<◌, get_or};
 ghost use Rattle.card_reader.specs.Lists.{Lent};
 ghost use Rattle.card_reader.specs.Lending.{Lends, Keeps};
 

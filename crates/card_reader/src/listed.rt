@@ -105,7 +105,13 @@ pub fn occurrence_of(kept: &Kept, e: usize) -> u8
 }
 
 // Whether some text under a parameter whose entries are kept counts for a test, among the entries that count.
-pub fn some_kept(card: &Card<'_>, kept: &Kept, chosen: Chosen, question: Question, value: &[u8]) -> bool
+pub fn some_kept(
+    card: &Card<'_>,
+    kept: &Kept,
+    chosen: Chosen,
+    question: Question,
+    value: &[u8],
+) -> bool
     requires keeps_card { KeepsCard card.now kept.now }
     requires index_bound { question.index < 32 }
     requires is_kept { IsKept kept.now question.index }

@@ -1,6 +1,6 @@
 -- Check, as the code comes to its answer.
 -- Assumes nothing.
-use Rattle.std.specs.Prelude.{Err, Ok, Result, Option, Some, None, ⊤}
+use Rattle.std.specs.Prelude.{Err, Ok, Result, Option, Some, None}
 use Prim.Native.Nat.{ℕ, ◌≤◌, ◌<◌}
 use native.Mathlib.Omega.{arith}
 use mathlib.Core.Path.{◌≡◌, refl, sym, ap, ◌∙◌}
@@ -30,7 +30,6 @@ use Rattle.refusal.specs.Steps.{Step, found, stop, refusal_step, ◌>>=◌, answ
 use Rattle.answer.specs.Operations.{accept_filter, decision_step, tests_step, sheet_step, accept_sheet, filter_answer, Inputs, accept_inputs, check_answer}
 use Rattle.answer.specs.Passing.{summary_answer}
 use Rattle.answer.proofs.Inputs.{text_read}
-use Rattle.block.specs.declared.Flaw.{Flaw}
 
 -- ---- the answer for a text that is a filter
 

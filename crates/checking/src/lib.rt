@@ -13,8 +13,8 @@ use answer::accept_sheet;
 use filter::{Summary, check_filter, top};
 use place::find_failure;
 use refusal::{Reason, Refusal, refuse};
-use syntax::scan::skip;
 use sheet::Sheet;
+use syntax::scan::skip;
 
 // The answer for a text that is a filter: the first refusal among its tests, or their number.
 pub fn outcome(summary: Summary) -> Result<usize, Refusal>

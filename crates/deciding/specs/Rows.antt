@@ -1,6 +1,6 @@
 -- What the code does over rows: the verdicts of the tests that they state, the mark of the whole, and the tests that are spared.
 -- Assumes nothing.
-use Rattle.std.specs.Prelude.{ℕ, ◌+◌, ◌≤◌, ◌<◌, ◌≡◌, Bool, true, false, List, [], ◌∷◌, ◌++◌, length, get_or, take, drop, Ok}
+use Rattle.std.specs.Prelude.{ℕ, ◌+◌, ◌≤◌, ◌<◌, ◌≡◌, Bool, true, false, List, [], ◌∷◌, ◌++◌, length, get_or, take, drop}
 use Rattle.std.proofs.Math.Option.{some}
 use Rattle.card.specs.Card.{Entry, entries_of}
 use Rattle.syntax.specs.Tree.{Tree}

@@ -6,8 +6,8 @@ ghost use Rattle.row_judge.specs.Saying.{rows_say, Whole};
 ghost use Rattle.deciding.specs.Deciding.{cell};
 ghost use Rattle.deciding.specs.Rows.{Tells, Room, Judgeable, Markable, FirstMarked, Gathers};
 
-use card::Card;
 use crate::marks::after_first;
+use card::Card;
 use judge::Chosen;
 use row_judge::say_once;
 use rows::{Row, row_of};

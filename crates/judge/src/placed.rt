@@ -10,11 +10,11 @@ ghost use Rattle.judge.specs.Sets.{lookup, chosen_of};
 ghost use Rattle.syntax.specs.Placed.{Placed};
 ghost use Rattle.kind.specs.Readable.{is_true};
 
-use card::Card;
 use crate::Chosen;
 use crate::faults::fault_at;
 use crate::values::text_counts;
 use crate::verdicts::says_at;
+use card::Card;
 use kind::Meaning;
 use refusal::Refusal;
 use sheet::{Found, Sheet};

@@ -5,9 +5,9 @@ ghost use Rattle.kind.specs.Readable.{card_readable};
 ghost use Rattle.judge.specs.Sets.{values_at, counts, chosen_of, conforms_to};
 ghost use Rattle.judge.specs.Verdicts.{some_value, text_counts};
 
-use card::Card;
 use crate::Chosen;
 use crate::values::text_counts;
+use card::Card;
 use kind::Meaning;
 
 // Whether the text of an entry is readable as the kind of its parameter.
@@ -39,7 +39,13 @@ pub fn is_under(chosen: Chosen, occurrence: u8, same: bool) -> bool
 }
 
 // Whether some text under a parameter counts for a meaning and a value, among the entries that count.
-pub fn some_counts(card: &Card<'_>, chosen: Chosen, index: u8, meaning: Meaning, value: &[u8]) -> bool
+pub fn some_counts(
+    card: &Card<'_>,
+    chosen: Chosen,
+    index: u8,
+    meaning: Meaning,
+    value: &[u8],
+) -> bool
     ensures { result ≡ some_value (text_counts meaning value.now) (values_at index (chosen_of chosen (entries_of card.now))) }
 {
     card.entries().any(|e| is_under(chosen, e.mark, e.tag == index)

@@ -4,9 +4,9 @@ ghost use Rattle.card.specs.Card.{entries_of};
 ghost use Rattle.judge.specs.Sets.{values_at, chosen_of};
 ghost use Rattle.judge.specs.Verdicts.{some_says, says_of, says_at};
 
-use card::Card;
 use crate::Chosen;
 use crate::sets::some_counts;
+use card::Card;
 use kind::Meaning;
 use sheet::Found;
 

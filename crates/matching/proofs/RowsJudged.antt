@@ -1,9 +1,9 @@
 -- Judge, as the code comes to its answer.
 -- Assumes nothing.
-use Rattle.std.specs.Prelude.{Result, Err, Ok, ⊤}
+use Rattle.std.specs.Prelude.{Result, Err, Ok}
 use Prim.Native.Nat.{ℕ, ◌≤◌, ◌<◌}
 use native.Mathlib.Omega.{arith}
-use mathlib.Core.Path.{◌≡◌, refl, sym, ap, ap₂, ◌∙◌}
+use mathlib.Core.Path.{◌≡◌, sym, ap, ap₂, ◌∙◌}
 use mathlib.Core.Bool.{Bool, true, false}
 use mathlib.Core.List.{List}
 use lib.ListN.{length}
@@ -19,14 +19,13 @@ use Rattle.rows.proofs.Good.{good_few}
 use Rattle.row_judge.proofs.Meaning.{good-whole, rows_mean}
 use Rattle.refusal.specs.declared.Reason.{Reason}
 use Rattle.refusal.specs.Answers.{yes_or_no, refused, number_of, matched_answer, refusal_answer}
-use Rattle.refusal.specs.Steps.{found, stop, refusal_step, ◌>>=◌, answer}
+use Rattle.refusal.specs.Steps.{found, refusal_step, ◌>>=◌, answer}
 use Rattle.answer.specs.Operations.{sheet_step, accept_sheet, Card, accept_card}
 use Rattle.answer.specs.Passing.{card_verdict}
 use Rattle.one_card.specs.OneCard.{verdict_step, verdict_answer, cells_question}
 use Rattle.answer.specs.Preparing.{accept_size, accept_rows, rows_answer, judge_answer}
 use Rattle.answer.proofs.Passing.{yes_or_no_after, same-verdicts}
 use Rattle.refusal.specs.declared.Refusal.{Refusal}
-use Rattle.block.specs.declared.Flaw.{Flaw}
 
 -- ---- the text's size
 

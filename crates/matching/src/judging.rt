@@ -1,6 +1,6 @@
 // Judge: a card under a sheet and rows that are good for a filter's text.
 ghost use Rattle.std.specs.Prelude.{◌≡◌};
-ghost use Rattle.sheet.specs.Sheet.{parameters_of, read_sheet};
+ghost use Rattle.sheet.specs.Sheet.{parameters_of};
 ghost use Rattle.refusal.specs.Answers.{matched_answer};
 ghost use Rattle.answer.specs.Preparing.{rows_answer, judge_answer};
 

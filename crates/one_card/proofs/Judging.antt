@@ -5,7 +5,7 @@
 -- (`rows_says`). By the text, the tree that the walk reads is the one that check has read (`read-from`), so that the walk's answer is what
 -- the text says (`says_done`). The verdict gives match's answer (`match_answered`).
 -- Assumes nothing.
-use Rattle.std.specs.Prelude.{Err, Ok, Result, ⊤, Option, Some, None}
+use Rattle.std.specs.Prelude.{Err, Ok, Result, Option, Some, None}
 use Prim.Native.Nat.{ℕ, ◌≤◌}
 use native.Mathlib.Omega.{arith}
 use mathlib.Core.Path.{◌≡◌, refl, sym, ap, ap₂, subst, ◌∙◌}

@@ -85,7 +85,12 @@ fn judge_few(kinds: &[u8; 32], filter: &[u8], rows: &[u32], card: &[u8]) -> Resu
 }
 
 // The same of rows that are opened for this card alone; good rows are that few.
-pub fn judge_once(kinds: &[u8; 32], filter: &[u8], rows: &[u32], card: &[u8]) -> Result<bool, Reason>
+pub fn judge_once(
+    kinds: &[u8; 32],
+    filter: &[u8],
+    rows: &[u32],
+    card: &[u8],
+) -> Result<bool, Reason>
     requires filter_len_bound { length filter.now ≤ 1024 }
     requires whole { Whole rows.now }
     requires rows_len_bound { length rows.now ≤ 320 }

@@ -7,8 +7,8 @@ ghost use Rattle.syntax.specs.Reader.{read};
 ghost use Rattle.answer.specs.Passing.{Passing, text_says, text_question, card_verdict};
 ghost use Rattle.one_card.specs.OneCard.{verdict_step};
 
-use card::Card;
 use crate::accept_card;
+use card::Card;
 use filter::top;
 use judge::Chosen;
 use refusal::Reason;

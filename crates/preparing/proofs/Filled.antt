@@ -41,7 +41,6 @@ use Rattle.answer.specs.Operations.{accept_filter, decision_step, tests_step, sh
 use Rattle.answer.specs.Passing.{summary_answer}
 use Rattle.answer.specs.Preparing.{row_cells, accept_cells, preparation, prepare_answer, prepare_cells, filled_step, text_rows, FillsText, Fills, Prepares}
 use Rattle.answer.proofs.Inputs.{text_read}
-use Rattle.block.specs.declared.Flaw.{Flaw}
 
 -- ---- refusals
 

@@ -14,8 +14,8 @@ use filter::top;
 use place::find_failure;
 use refusal::{Reason, Refusal, refuse};
 use row_writer::write_filter;
-use syntax::scan::skip;
 use sheet::Sheet;
+use syntax::scan::skip;
 
 // The answer for a text that is no filter.
 fn no_filter(filter: &[u8]) -> Result<usize, Refusal>

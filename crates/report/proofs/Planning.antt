@@ -33,7 +33,6 @@ use Rattle.sirophan.proofs.Contracts.{refused_by}
 use Rattle.report.specs.Operation.{reported_answer, Survey, accept_rows, says, saying, reporting, report_answer, entries_in, report_rows}
 use Rattle.report.specs.Refusals.{ReportLine}
 use Rattle.report.specs.Operations.{Plans}
-use Rattle.report.specs.declared.Verdicts.{Verdicts}
 use Rattle.report.specs.declared.plan.Plan.{Plan}
 use Rattle.report.proofs.Steps.{stepped_none}
 use Rattle.report.proofs.Passes.{stepped_cards, steps_ready}

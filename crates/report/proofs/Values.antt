@@ -3,16 +3,13 @@
 use Rattle.std.specs.Prelude.{Ok}
 use Prim.Native.Nat.{ℕ, suc, ◌+◌, ◌-◌, ◌≤◌, ◌<◌}
 use native.Mathlib.Omega.{arith}
-use mathlib.Core.Path.{◌≡◌, refl, ap, sym, ◌∙◌}
-use mathlib.Core.Bool.{Bool, true, false}
+use mathlib.Core.Path.{◌≡◌, refl, ap, ◌∙◌}
 use mathlib.Core.List.{List, [], ◌∷◌}
 use lib.Dec.{eqb}
 use lib.ListN.{length, get_or}
 use borrow.Author.Tests.{eq-eqb, ne_eqb}
 use Rattle.std.specs.List.{filter}
-use Rattle.base.specs.Parts.{part}
 use Rattle.base.proofs.Tests.{cond-elim}
-use Rattle.block.specs.Items.{items}
 use Rattle.block.proofs.Items.{items-length, layout_count}
 use Rattle.card.specs.Card.{Entry, entry, entry_count, entries_of, read_card}
 use Rattle.card.proofs.Read.{card_layout}

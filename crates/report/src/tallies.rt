@@ -2,8 +2,8 @@
 ghost use Rattle.std.specs.Prelude.{◌≡◌, ℕ, ◌<◌, ◌≤◌, ◌%◌};
 ghost use Rattle.report.specs.Steps.{raise, step_index, step_tally, stepped, ValuesOf, Small, Raisable, Ready};
 
-use card::Card;
 use crate::Tally;
+use card::Card;
 
 // How many values a well-formed card has under a parameter.
 fn values_of(card: &Card<'_>, index: usize) -> u32

@@ -5,9 +5,9 @@ ghost use Rattle.judge.specs.Sets.{chosen_of, conforms_to};
 ghost use Rattle.row_opener.specs.Opening.{Opens};
 ghost use Rattle.row_judge.specs.Saying.{rows_say, Whole};
 
-use card::Card;
 use crate::asks::lend_for;
 use crate::says::rows_say;
+use card::Card;
 use card_reader::read_entries;
 use judge::Chosen;
 use row_opener::{Opened, open_rows};
@@ -33,7 +33,13 @@ fn say_opened(
 }
 
 // The same of rows that are opened for this card; good rows are that few.
-pub fn say_once(kinds: &[u8; 32], filter: &[u8], rows: &[u32], card: &Card<'_>, chosen: Chosen) -> bool
+pub fn say_once(
+    kinds: &[u8; 32],
+    filter: &[u8],
+    rows: &[u32],
+    card: &Card<'_>,
+    chosen: Chosen,
+) -> bool
     requires filter_len_bound { length filter.now ≤ 1024 }
     requires whole { Whole rows.now }
     requires rows_len_bound { length rows.now ≤ 320 }

@@ -11,8 +11,8 @@ ghost use Rattle.card_reader.specs.Listed.{entry_counts, OnChain, FirstFrom};
 ghost use Rattle.row_judge.specs.Saying.{probe_says, rows_say, Ready, Bracketed, skipped, bracket_says};
 ghost use Rattle.row_opener.specs.Opening.{Known, value_of, opened_for};
 
-use card::Card;
 use crate::Asked;
+use card::Card;
 use card_reader::{Kept, Question, chain_behind, chain_of, kind_at, next_counting, occurrence_of};
 use judge::{Chosen, some_says};
 use row_opener::{Opened, readings_in};

@@ -30,7 +30,6 @@ use Rattle.answer.proofs.Passing.{match_stopped}
 use Rattle.one_card.proofs.Judging.{match_answered}
 use Rattle.one_card.specs.OneCard.{verdict_step, verdict_answer}
 use Rattle.refusal.specs.declared.Reason.{Reason}
-use Rattle.block.specs.declared.Flaw.{Flaw}
 
 -- ---- a string that is refused: no count, so that nothing is asked of the rows
 

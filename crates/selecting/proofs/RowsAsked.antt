@@ -26,7 +26,6 @@ use Rattle.rows.specs.Stated.{tree_of}
 use Rattle.rows.proofs.Good.{good_states, good_iff, good_few}
 use Rattle.row_judge.proofs.Meaning.{erase-says, good-whole, rows_mean}
 use Rattle.row_writer.proofs.Preparing.{prepared-good, prepared_states}
-use Rattle.query.specs.declared.Rows.{Rows}
 use Rattle.refusal.specs.Answers.{number_of}
 use Rattle.refusal.specs.Steps.{Step, found, stop, ◌>>=◌}
 use Rattle.refusal.specs.declared.Refusal.{Refusal}

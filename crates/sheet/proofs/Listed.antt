@@ -5,7 +5,7 @@
 -- parameter's kind is found at its index (`listed_kind`). A table of 32 cells is the list with zeros behind it, so its cells give the same
 -- (`table_kind`, `table_listed`).
 -- Assumes nothing.
-use Rattle.std.specs.Prelude.{Option, None, Some, Ok}
+use Rattle.std.specs.Prelude.{Option, None, Some}
 use Prim.Native.Nat.{ℕ, zero, suc, ◌+◌, ◌-◌, ◌<◌}
 use native.Mathlib.Nat.{add-zero}
 use native.Mathlib.Omega.{arith}
@@ -15,18 +15,17 @@ use lib.Dec.{eqb}
 use borrow.Author.Tests.{eqb-true, eq-eqb, ne_eqb}
 use mathlib.Core.Logic.{◌↔◌}
 use mathlib.Core.List.{List, [], ◌∷◌, ◌++◌, map}
-use lib.ListN.{length, get_or, replicate, length-append}
+use lib.ListN.{length, get_or, replicate}
 use Rattle.base.specs.Lists.{Listed, All, all_empty, all_cons, equal}
 use Rattle.base.proofs.Tests.{and_left, and_right}
 use Rattle.base.proofs.All.{all_head, all_right}
 use Rattle.base.proofs.Lists.{equal-same, equal_refl}
 use Rattle.base.specs.Parts.{padded}
 use Rattle.base.proofs.Lists.{listed_first, listed_later}
-use Rattle.sheet.specs.Sheet.{Parameter, parameter, kind_at, parameters_of, read_sheet}
+use Rattle.sheet.specs.Sheet.{Parameter, parameter, kind_at}
 use Rattle.sheet.specs.Encode.{MayShare, Distinct, distinct_cons}
 use Rattle.sheet.specs.Find.{found_at, find_from, find, enter, table_of, kinds_of}
 use Rattle.sheet.specs.declared.Found.{Found}
-use Rattle.sheet.proofs.Read.{sheet_count}
 
 -- ---- what is found by name
 

@@ -1,5 +1,4 @@
 -- `plain::bracket::bracket` meets its contract: the bytes move one place on. Assumes nothing.
-use borrow.Author.Rules.{rules}
 use Rattle.plain.proofs.Moving.{bracket_puts}
 use Rattle.plain.proofs.bracket.bracket.Goals as goal
 

@@ -1,9 +1,6 @@
 -- `sheet::Sheet::read` meets its contract: the check answers, and then the layout. Assumes nothing.
-use borrow.Author.Rules.{rules}
-use Rattle.std.specs.Prelude.{Ok, Err, Result, ⊤}
 use Rattle.std.proofs.lemmas.Result.{err_from_is_err_and}
 use mathlib.Core.Path.{◌≡◌, refl, sym}
-use Rattle.block.specs.declared.Flaw.{Flaw}
 use Rattle.block.proofs.Seal.{check-length}
 use Rattle.block.proofs.Readings.{reading_flaw, reading_layout, reading_right}
 use Rattle.sheet.specs.Sheet.{read_sheet}
