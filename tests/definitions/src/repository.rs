@@ -7,7 +7,7 @@ use crate::words::{self, Word};
 use std::collections::{BTreeMap, BTreeSet};
 
 /// Words of the language, and names that every file has without an import. Others that a statement comes to use go here.
-const WORDS: [&str; 20] = [
+const WORDS: [&str; 21] = [
     "abbrev",
     "data",
     "in",
@@ -28,6 +28,7 @@ const WORDS: [&str; 20] = [
     "no",
     "cc",
     "omega",
+    "tt",
 ];
 
 /// The libraries that come with the prover; what is called `Rattle.NAME..` otherwise is a crate of the repository.
