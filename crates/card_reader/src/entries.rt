@@ -1,7 +1,7 @@
 // One pass over a card's entries.
-ghost use Rattle.std.specs.Prelude.{◌≡◌, ◌+◌, ◌<◌, ◌≤◌, length};
+ghost use Rattle.std.specs.Prelude.{◌+◌, ◌<◌, ◌≤◌, length};
 ghost use Rattle.base.specs.Kinds.{number, date, period};
-ghost use Rattle.card_reader.specs.Lists.{Lent, ReadsCard};
+ghost use Rattle.card_reader.specs.Lists.{ReadsCard};
 ghost use Rattle.card_reader.specs.Storing.{Begun, TakesAs, Takes};
 
 use crate::store::store_entry;
@@ -12,15 +12,16 @@ use card::Card;
 
 // Has no entry of a card.
 fn begin(kept: &mut Kept)
-    requires { Lent kept.old }
     ensures { Begun kept.old kept.new }
 {
     kept.last = [0; 32];
 }
 
+// The functions below answer whether a text was readable, as card_readable does, and keep the entry where it was. Each stores what it has read
+// itself: a reading that is handed on, as an Option or by a function for all, goes through memory and takes more instructions a card.
+
 // Keeps an entry whose text is a number.
 fn take_number(kept: &mut Kept, e: usize, item: Item<'_>) -> bool
-    requires lent { Lent kept.old }
     requires tag_bound { item.tag < 32 }
     requires end_bound { item.start + length item.text.now ≤ 508 }
     requires e_bound { e < 64 }
@@ -35,7 +36,6 @@ fn take_number(kept: &mut Kept, e: usize, item: Item<'_>) -> bool
 
 // Keeps an entry whose text is a date.
 fn take_date(kept: &mut Kept, e: usize, item: Item<'_>) -> bool
-    requires lent { Lent kept.old }
     requires tag_bound { item.tag < 32 }
     requires end_bound { item.start + length item.text.now ≤ 508 }
     requires e_bound { e < 64 }
@@ -50,7 +50,6 @@ fn take_date(kept: &mut Kept, e: usize, item: Item<'_>) -> bool
 
 // Keeps an entry whose text is a period.
 fn take_period(kept: &mut Kept, e: usize, item: Item<'_>) -> bool
-    requires lent { Lent kept.old }
     requires tag_bound { item.tag < 32 }
     requires end_bound { item.start + length item.text.now ≤ 508 }
     requires e_bound { e < 64 }
@@ -65,7 +64,6 @@ fn take_period(kept: &mut Kept, e: usize, item: Item<'_>) -> bool
 
 // Keeps an entry by the bytes of its text, which is of any kind.
 fn take_bytes(kind: u8, kept: &mut Kept, e: usize, item: Item<'_>) -> bool
-    requires lent { Lent kept.old }
     requires tag_bound { item.tag < 32 }
     requires end_bound { item.start + length item.text.now ≤ 508 }
     requires e_bound { e < 64 }
@@ -80,7 +78,6 @@ fn take_bytes(kind: u8, kept: &mut Kept, e: usize, item: Item<'_>) -> bool
 
 // Whether the text of an entry is readable as its parameter's kind; where it is, keeps it as the entry e, if entries of the parameter are kept.
 fn take_entry(kinds: &[u8; 32], kept: &mut Kept, e: usize, item: Item<'_>) -> bool
-    requires lent { Lent kept.old }
     requires e_bound { e < 64 }
     requires end_bound { item.start + length item.text.now ≤ 508 }
     ensures { Takes kinds.now e item.entry kept.old kept.new result }
@@ -103,7 +100,6 @@ fn take_entry(kinds: &[u8; 32], kept: &mut Kept, e: usize, item: Item<'_>) -> bo
 
 // Whether a well-formed card conforms to a sheet with these kinds; where it does, its entries are kept.
 pub fn read_entries(kinds: &[u8; 32], card: &Card<'_>, kept: &mut Kept) -> bool
-    requires lent { Lent kept.old }
     ensures { ReadsCard kinds.now card.now kept.old kept.new result }
 {
     begin(kept);

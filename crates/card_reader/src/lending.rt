@@ -1,6 +1,5 @@
 // What is kept, as it is lent for a run.
 ghost use Rattle.std.specs.Prelude.{◌≡◌, ◌<◌, get_or};
-ghost use Rattle.card_reader.specs.Lists.{Lent};
 ghost use Rattle.card_reader.specs.Lending.{Lends, Keeps};
 
 use crate::{Kept, KeptEntry, TextReading};
@@ -26,7 +25,6 @@ pub fn lend(kinds: &[u8; 32]) -> Kept
 
 // Has the entries of a parameter kept from the next card on.
 pub fn keep(kept: &mut Kept, index: u8)
-    requires lent { Lent kept.old }
     requires index_bound { index < 32 }
     ensures { Keeps index kept.old kept.new }
 {
@@ -35,7 +33,6 @@ pub fn keep(kept: &mut Kept, index: u8)
 
 // The kind of a parameter.
 pub fn kind_at(kept: &Kept, index: u8) -> u8
-    requires lent { Lent kept.now }
     requires index_bound { index < 32 }
     ensures { result ≡ get_or kept.now.kinds index 0 }
 {

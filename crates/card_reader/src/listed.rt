@@ -4,7 +4,7 @@ ghost use Rattle.card.specs.Card.{entries_of};
 ghost use Rattle.judge.specs.Once.{readings_for};
 ghost use Rattle.judge.specs.Sets.{values_at, chosen_of, counts};
 ghost use Rattle.judge.specs.Verdicts.{some_value, text_counts};
-ghost use Rattle.card_reader.specs.Lists.{no_entry, none_kept, Lent, Holds, IsKept, KeepsCard};
+ghost use Rattle.card_reader.specs.Lists.{no_entry, none_kept, Holds, IsKept, KeepsCard};
 ghost use Rattle.card_reader.specs.Listed.{entry_counts, OnChain, FirstFrom};
 
 use crate::related::reading_counts;
@@ -31,7 +31,6 @@ fn entry_counts(
     question: Question,
     value: &[u8],
 ) -> bool
-    requires lent { Lent kept.now }
     requires e_bound { e < 64 }
     requires holds { Holds card.now (get_or kept.now.entries e none_kept) (get_or (entries_of card.now) e no_entry) }
     requires readings_value { question.readings ≡ readings_for question.meaning value.now }
@@ -67,6 +66,7 @@ pub fn next_counting(
     ensures { FirstFrom (entry_counts chosen question.meaning value.now) card.now kept.now question.index from result }
 {
     let mut next = from;
+    // no for: a chain goes from an entry to the one before it under its parameter
     while next > 0 {
         let e = next - 1;
         if entry_counts(card, kept, e, chosen, question, value) {
@@ -79,7 +79,6 @@ pub fn next_counting(
 
 // Where the chain of a parameter begins: at its last entry, counted from 1, or 0 for none.
 pub fn chain_of(kept: &Kept, index: u8) -> usize
-    requires lent { Lent kept.now }
     requires index_bound { index < 32 }
     ensures { result ≡ get_or kept.now.last index 0 }
 {
@@ -88,7 +87,6 @@ pub fn chain_of(kept: &Kept, index: u8) -> usize
 
 // Where it goes on behind the entry e.
 pub fn chain_behind(kept: &Kept, e: usize) -> usize
-    requires lent { Lent kept.now }
     requires e_bound { e < 64 }
     ensures { result ≡ (get_or kept.now.entries e none_kept).behind }
 {
@@ -97,7 +95,6 @@ pub fn chain_behind(kept: &Kept, e: usize) -> usize
 
 // The occurrence of the entry e.
 pub fn occurrence_of(kept: &Kept, e: usize) -> u8
-    requires lent { Lent kept.now }
     requires e_bound { e < 64 }
     ensures { result ≡ (get_or kept.now.entries e none_kept).occurrence }
 {

@@ -26,7 +26,7 @@ fn number_relates(relation: NumberRelation, i: Decimal, value: Option<Decimal>) 
     numbers_relate(relation, i, f)
 }
 
-// A card's span and what a filter's value reads to.
+// A card's span and what a filter's value reads to. A number's function has another type and another relation.
 fn span_relates(relation: DateRelation, i: Period, value: Option<Date>) -> bool
     ensures { result ≡ date_readings_relate relation (Some i) value }
 {

@@ -1,6 +1,5 @@
 // How an entry is kept.
-ghost use Rattle.std.specs.Prelude.{◌≡◌, ◌+◌, ◌<◌, ◌≤◌, length};
-ghost use Rattle.card_reader.specs.Lists.{Lent};
+ghost use Rattle.std.specs.Prelude.{◌+◌, ◌<◌, ◌≤◌, length};
 ghost use Rattle.card_reader.specs.Storing.{Stored};
 
 use crate::{Kept, KeptEntry, TextReading};
@@ -8,7 +7,6 @@ use block::Item;
 
 // Keeps an entry as the entry e, before the others under its parameter, with what its text reads to.
 pub fn store_entry(kept: &mut Kept, e: usize, item: Item<'_>, reading: TextReading)
-    requires lent { Lent kept.old }
     requires tag_bound { item.tag < 32 }
     requires end_bound { item.start + length item.text.now ≤ 508 }
     requires e_bound { e < 64 }

@@ -143,6 +143,7 @@ pub fn check_filter(sheet: &Sheet<'_>, filter: &[u8], spot: Spot) -> Option<Walk
     ensures { result ≡ answer_of walked (reading (parameters_of sheet.now) spot.bundle) (filter_at spot.levels filter.now spot.close spot.at) }
 {
     let mut read = check_item(sheet, filter, spot)?;
+    // no for: where the next item begins is known when the one before it was read
     while let Some(link) = read_connective(filter, read.end) {
         let next = Spot {
             at: link.next,

@@ -28,7 +28,7 @@ use Rattle.filter.specs.declared.Spot.{Spot}
 use Rattle.text_judge.specs.declared.Judged.{Judged}
 use Rattle.filter.proofs.Walk.{top-bundle, top_read, was_filter, was_none}
 use Rattle.text_judge.proofs.Judging.{judged_cases, judging_is}
-use Rattle.card_reader.specs.Lists.{Lent, ReadsCard}
+use Rattle.card_reader.specs.Lists.{ReadsCard}
 use Rattle.card_reader.specs.declared.Kept.{Kept}
 use Rattle.row_opener.specs.Opening.{Opens}
 use Rattle.row_opener.specs.declared.Opened.{Opened}
@@ -115,13 +115,12 @@ module _ (kinds b : List ℕ) (t : Result (List ℕ) Reason) (e : AcceptsCard ki
 
 -- ---- and what it holds is kept
 
-module _ (kinds b : List ℕ) (kept : Kept) (l : Lent kept) where
+module _ (kinds b : List ℕ) (kept : Kept) where
   -- the bytes are no card
   pub takes_flawed : (flaw : Flaw) (x : Reason) → read_card b ≡ Err flaw → ((fits : Bool) (c : Card) (i : ℕ) → card_step (Err flaw) fits c i ≡ stop (number_of x) i) → TakesCard kinds b kept kept (Err x)
   takes_flawed flaw x h t =
       record {
         accepts = accepts_flawed kinds b flaw x h t;
-        lent = l;
         begins = record { kinds_are = refl; asked_are = refl };
         keeps = λ c z. absurd (let y : ◌≡◌ {A = ℕ} 0 1 = cc in omega arith);
       }
@@ -134,7 +133,6 @@ module _ (kinds b k : List ℕ) (s : k ≡ b) (h : read_card b ≡ (Ok tt)) (bef
   takes_misfit n =
       record {
         accepts = accepts_misfit kinds b o w.answer h n;
-        lent = w.lent;
         begins = w.begins;
         keeps = λ c z. absurd (let y : ◌≡◌ {A = ℕ} 0 1 = cc in omega arith);
       }
@@ -142,12 +140,12 @@ module _ (kinds b k : List ℕ) (s : k ≡ b) (h : read_card b ≡ (Ok tt)) (bef
   pub takes_conforming : o ≡ true → TakesCard kinds b before kept (Ok k)
   takes_conforming y =
       subst (λ (d : List ℕ). TakesCard kinds b before kept (Ok d)) (sym s)
-      (record { accepts = accepts_conforming kinds b o w.answer h y; lent = w.lent; begins = w.begins; keeps = λ _ _. w.keeps y })
+      (record { accepts = accepts_conforming kinds b o w.answer h y; begins = w.begins; keeps = λ _ _. w.keeps y })
 
 module _ (kinds xs rows b : List ℕ) (before kept : Kept) (t : Result (List ℕ) Reason) (l : LentFor kinds rows before) (w : TakesCard kinds b before kept t) where
   -- it stays lent for the rows
   pub taken-lent : LentFor kinds rows kept
-  taken-lent = lent-on kinds rows before kept l w.lent w.begins
+  taken-lent = lent-on kinds rows before kept l w.begins
 
   -- rows that were opened are ready for the card
   pub taken-ready : (values : List (Option Opened)) → length xs ≤ 1024 → Whole rows → Opens kinds xs rows values (length rows) → (c : List ℕ) → t ≡ Ok c → Ready xs rows values c kept

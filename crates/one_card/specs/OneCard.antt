@@ -4,7 +4,7 @@ use Rattle.std.specs.Prelude.{ℕ, ◌≡◌, Bool, List, Err, Ok, Result}
 use Rattle.sheet.specs.Sheet.{Parameter}
 use Rattle.sheet.specs.Find.{kinds_of}
 use Rattle.card.specs.Card.{record_number, entries_of, read_card}
-use Rattle.card_reader.specs.Lists.{Lent, KeepsCard, BeginsAlike}
+use Rattle.card_reader.specs.Lists.{KeepsCard, BeginsAlike}
 use Rattle.card_reader.specs.declared.Kept.{Kept}
 use Rattle.row_judge.specs.Saying.{rows_say}
 use Rattle.refusal.specs.Answers.{Answer, yes_or_no, number_of}
@@ -28,7 +28,6 @@ pub record AcceptsCard (kinds card : List ℕ) (r : Result (List ℕ) Reason) : 
 -- the same, with what is kept of a card that is accepted
 pub record TakesCard (kinds card : List ℕ) (before kept : Kept) (r : Result (List ℕ) Reason) : Type 0 where
   pub accepts : AcceptsCard kinds card r
-  pub lent : Lent kept
   pub begins : BeginsAlike before kept
   pub keeps : (b : List ℕ) → r ≡ Ok b → KeepsCard card kept
 

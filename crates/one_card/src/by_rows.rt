@@ -20,7 +20,6 @@ use row_opener::{Opened, open_rows};
 
 // Reads a card as accept_card does, and keeps what its entries read to; `kinds` are those of the sheet.
 fn take_card<'a>(kinds: &[u8; 32], bytes: &'a [u8], kept: &mut Kept) -> Result<Card<'a>, Reason>
-    requires { Lent kept.old }
     ensures { TakesCard kinds.now bytes.now kept.old kept.new result }
 {
     match Card::read(bytes) {

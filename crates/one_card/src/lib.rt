@@ -17,7 +17,7 @@ use card::Card;
 use judge::conforms;
 use refusal::{Reason, Refusal};
 
-// What is told of bytes that are no card: 20, 21 and 22.
+// What is told of bytes that are no card: 20, 21 and 22. For a sheet the same flaws have other numbers.
 fn card_reason(flaw: Flaw) -> Reason
     ensures { (fits : Bool) (card : Accepted) (i : ℕ) → card_step (Err flaw) fits card i ≡ stop (number_of result) i }
 {

@@ -27,6 +27,7 @@ pub fn fill<R: Read>(file: &mut R, buffer: &mut [u8]) -> Option<usize>
     ensures { Fills result (length buffer.new) }
 {
     let mut at = 0;
+    // no for: a read gives as many bytes as it likes
     while at < buffer.len() {
         let got = file.read(&mut buffer[at..]);
         let n = got.unwrap_or(0);

@@ -14,7 +14,7 @@ use Rattle.rows.specs.declared.Probe.{Probe}
 use Rattle.rows.specs.declared.Row.{Row}
 use Rattle.card.specs.Card.{entries_of, read_card}
 use Rattle.judge.specs.Sets.{Chosen, chosen_of, conforms_to}
-use Rattle.card_reader.specs.Lists.{Lent, IsKept, KeepsCard, BeginsAlike, ReadsCard}
+use Rattle.card_reader.specs.Lists.{IsKept, KeepsCard, BeginsAlike, ReadsCard}
 use Rattle.card_reader.specs.declared.Kept.{Kept}
 use Rattle.card_reader.specs.Lending.{Lends, Keeps}
 use Rattle.row_opener.specs.Opening.{Opens}
@@ -23,23 +23,22 @@ use Rattle.row_judge.specs.Saying.{rows_say, Whole, Ready}
 use Rattle.row_judge.specs.Asking.{KeepsTests, LentFor}
 
 pub record KeptTo (rows : List ℕ) (before kept : Kept) (i : ℕ) : Type 0 where
-  pub lent : Lent kept
   pub kinds_are : kept.kinds ≡ before.kinds
   pub each : (j : ℕ) → j < i → (p : Probe) → row_of (get_or rows j 0) ≡ Row.Test p → IsKept kept p.index
 
 module _ (rows : List ℕ) (before : Kept) where
-  pub kept_start : Lent before → KeptTo rows before before 0
-  kept_start w = record { lent = w; kinds_are = refl; each = λ j z. absurd (omega (arith, z)) }
+  pub kept_start : KeptTo rows before before 0
+  kept_start = record { kinds_are = refl; each = λ j z. absurd (omega (arith, z)) }
 
   module _ (kept : Kept) (i : ℕ) (inv : KeptTo rows before kept i) where
     pub kept_end : length rows ≤ i → KeepsTests rows before kept
-    kept_end z = record { lent = inv.lent; kinds_are = inv.kinds_are; all_kept = record { each = λ j l. inv.each j (omega (arith, z, l)) } }
+    kept_end z = record { kinds_are = inv.kinds_are; all_kept = record { each = λ j l. inv.each j (omega (arith, z, l)) } }
 
     module _ (r : Row) (e : r ≡ row_of (get_or rows i 0)) where
       -- a test
       pub kept_test : (p : Probe) (after : Kept) → r ≡ Row.Test p → Keeps p.index kept after → KeptTo rows before after (i + 1)
       kept_test p after h k =
-          record { lent = k.lent; kinds_are = k.kinds_are ∙ inv.kinds_are; each = λ j z q y. by_place j z q y (eqb j i) refl }
+          record { kinds_are = k.kinds_are ∙ inv.kinds_are; each = λ j z q y. by_place j z q y (eqb j i) refl }
         where
           by_place : (j : ℕ) → j < i + 1 → (q : Probe) → row_of (get_or rows j 0) ≡ Row.Test q → (t : Bool) → eqb j i ≡ t → IsKept after q.index
           by_place j z q y true t =
@@ -51,7 +50,7 @@ module _ (rows : List ℕ) (before : Kept) where
       -- a row that is none
       pub kept_none : ((p : Probe) → r ≡ Row.Test p → ⊥) → KeptTo rows before kept (i + 1)
       kept_none n =
-          record { lent = inv.lent; kinds_are = inv.kinds_are; each = λ j z q y. by_place j z q y (eqb j i) refl }
+          record { kinds_are = inv.kinds_are; each = λ j z q y. by_place j z q y (eqb j i) refl }
         where
           by_place : (j : ℕ) → j < i + 1 → (q : Probe) → row_of (get_or rows j 0) ≡ Row.Test q → (t : Bool) → eqb j i ≡ t → IsKept kept q.index
           by_place j z q y true t = absurd (n q (e ∙ ap (λ (m : ℕ). row_of (get_or rows m 0)) (sym (eqb-true j i t)) ∙ y))
@@ -60,13 +59,12 @@ module _ (rows : List ℕ) (before : Kept) where
 -- ---- what is kept in a run
 
 pub lent_for : (kinds rows : List ℕ) (before after : Kept) → Lends kinds before → KeepsTests rows before after → LentFor kinds rows after
-lent_for kinds rows before after l k = record { lent = k.lent; kinds_are = k.kinds_are ∙ l.kinds_are; all_kept = k.all_kept }
+lent_for kinds rows before after l k = record { kinds_are = k.kinds_are ∙ l.kinds_are; all_kept = k.all_kept }
 
 -- so it stays from card to card
-pub lent-on : (kinds rows : List ℕ) (before kept : Kept) → LentFor kinds rows before → Lent kept → BeginsAlike before kept → LentFor kinds rows kept
-lent-on kinds rows before kept l w a =
+pub lent-on : (kinds rows : List ℕ) (before kept : Kept) → LentFor kinds rows before → BeginsAlike before kept → LentFor kinds rows kept
+lent-on kinds rows before kept l a =
     record {
-      lent = w;
       kinds_are = a.kinds_are ∙ l.kinds_are;
       all_kept = record { each = λ j z p y. ap (λ (q : List Bool). get_or q p.index false) a.asked_are ∙ l.all_kept.each j z p y };
     }
@@ -88,7 +86,7 @@ read_conforming kinds card before kept r w h = w.answer ∙ h
 
 module _ (kinds xs rows card : List ℕ) (before kept : Kept) (r : Bool) (l : LentFor kinds rows before) (w : ReadsCard kinds card before kept r) where
   read-lent : LentFor kinds rows kept
-  read-lent = lent-on kinds rows before kept l w.lent w.begins
+  read-lent = lent-on kinds rows before kept l w.begins
 
   pub read-ready : (values : List (Option Opened)) → length xs ≤ 1024 → Whole rows → Opens kinds xs rows values (length rows) → r ≡ true → Ready xs rows values card kept
   read-ready values h e o y = lent-ready kinds xs rows card kept read-lent values h e o (w.keeps y)

@@ -7,7 +7,6 @@ use rows::{Row, row_of};
 
 // Has the entries of every parameter that the rows ask about kept, from the next card on.
 fn keep_tests(rows: &[u32], kept: &mut Kept)
-    requires { Lent kept.old }
     ensures { KeepsTests rows.now kept.old kept.new }
 {
     for &cell in rows {

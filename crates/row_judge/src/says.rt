@@ -146,6 +146,7 @@ fn bracket_says(
     };
     let from = chain_of(kept, index);
     let mut next = next_text(filter, card, kept, chosen, asked, from);
+    // no for: a chain goes from an entry to the one before it under its parameter
     while next > 0 {
         let e = next - 1;
         let own = Some(occurrence_of(kept, e));
@@ -173,6 +174,7 @@ pub fn rows_say(
 {
     let mut at = 0;
     let mut verdict = false;
+    // no for: the rows of a second part are passed over at once
     while at < rows.len() {
         match row_of(rows[at]) {
             Row::Test(probe) => {

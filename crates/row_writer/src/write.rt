@@ -324,6 +324,7 @@ fn write_rest(
     ensures { WroteFilter sheet.now filter.now spot row result rows.old rows.new }
 {
     let mut read = first;
+    // no for: where the next item begins is known when the one before it was read
     while let Some(link) = read_connective(filter, read.end) {
         let next = Spot {
             at: link.next,

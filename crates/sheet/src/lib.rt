@@ -80,6 +80,7 @@ fn absent(mut parameters: Walker<'_>, bundle: u8, name: &[u8]) -> bool
 fn distinct(mut parameters: Walker<'_>) -> bool
     ensures { result ≡ distinct (coming parameter parameters.entry) }
 {
+    // no for: the walk that is left, over those behind the parameter, is asked too
     while let Some(p) = parameters.next() {
         if !absent(parameters, p.mark, p.text) {
             return false;

@@ -228,6 +228,7 @@ pub fn write_filter(filter: &[u8], spot: Spot, out: &mut [u8]) -> Written
     let levels = spot.levels;
     let close = spot.close;
     let mut written = write_item(filter, Spot { at, levels, close }, out);
+    // no for: where the next item begins is known when the one before it was read
     while let Some(link) = read_connective(filter, written.end) {
         let length = written.length;
         let more = write_joined(

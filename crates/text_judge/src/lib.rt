@@ -309,6 +309,7 @@ pub fn judge_filter(
     ensures { result ≡ answer_of judged (judging needed (parameters_of sheet.now) spot.bundle (chosen_of chosen (entries_of card.now))) (filter_at spot.levels filter.now spot.close spot.at) }
 {
     let mut judged = judge_item(needed, sheet, card, chosen, filter, spot)?;
+    // no for: where the next item begins is known when the one before it was read
     while let Some(link) = read_connective(filter, judged.end) {
         let asked = item_needed(needed, link.connective, judged.says);
         let next = Spot {

@@ -1,14 +1,12 @@
 -- `card_reader::entries::read_entries` meets its contract: the entries so far are kept, and those to come decide. Assumes nothing.
+use borrow.Author.Rules.{rules}
 use Rattle.card_reader.proofs.Reading.{progress_start, progress_room, progress_within, progress_misfit, progress_next, progress_end}
 use Rattle.card_reader.proofs.entries.read_entries.Goals as goal
 
 pub loop-e-init : goal.loop-e-init
 loop-e-init c =
     rw (c.into_iter-e-iterator.ensures.into_iter_gives, c.enumerate-e-items.ensures.source, c.enumerate-e-items.ensures.count)
-    (progress_start _ _ _ _ c.entries.result c.entries.ensures.well_formed c.entries.ensures.block c.entries.ensures.entries c.requires.lent c.begin.ensures)
-
-pub take_entry-requires-clause-lent : goal.take_entry-requires-clause-lent
-take_entry-requires-clause-lent c = c.loop-e.invariant.lent
+    (progress_start _ _ _ _ c.entries.result c.entries.ensures.well_formed c.entries.ensures.block c.entries.ensures.entries (search rules) c.begin.ensures)
 
 pub take_entry-requires-clause-e_bound : goal.take_entry-requires-clause-e_bound
 take_entry-requires-clause-e_bound c = progress_room _ _ _ _ _ _ c.loop-e.invariant _ _ c.in-Some.ensures.steps.0 _ c.in-Some.ensures.steps.1

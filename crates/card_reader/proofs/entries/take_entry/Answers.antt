@@ -22,4 +22,4 @@ pub returns-in-Some-Period : goal.returns-in-Some-Period
 returns-in-Some-Period c = let own = sym c.in-Some-Period.ensures ∙ ap kind_number c.in-Some-Period.field-0-is in search (takes_as, own, rules)
 
 pub returns-in_default : goal.returns-in_default
-returns-in_default c = takes_as _ _ _ _ c.requires.lent _ c.from-i.ensures c.if-i-ge32.false _ refl (search (not-true, c.if-not-kept-i.false, rules)) c.requires.e_bound _ refl _ _ c.take_bytes.ensures
+returns-in_default c = takes_as _ _ _ _ (search rules) _ c.from-i.ensures c.if-i-ge32.false _ refl (search (not-true, c.if-not-kept-i.false, rules)) c.requires.e_bound _ refl _ _ c.take_bytes.ensures

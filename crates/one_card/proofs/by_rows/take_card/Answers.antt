@@ -9,4 +9,4 @@ pub returns-else-read_entries : goal.returns-else-read_entries
 returns-else-read_entries c = let p = c.in-Ok.ensures.read in takes_misfit _ _ _ p.0 p.1 _ _ _ c.read_entries.ensures c.if-read_entries.false
 
 pub returns-in-Err : goal.returns-in-Err
-returns-in-Err c = takes_flawed _ _ _ c.requires _ _ c.in-Err.ensures.flaw c.card_reason.ensures
+returns-in-Err c = takes_flawed _ _ _ _ _ c.in-Err.ensures.flaw c.card_reason.ensures

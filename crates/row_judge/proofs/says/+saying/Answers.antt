@@ -6,7 +6,7 @@ use mathlib.Core.Path.{refl}
 use lib.ListN.{length, drop, length-drop}
 use lib.Seq.{length-take-le}
 use Rattle.rows.proofs.Cells.{test_index}
-use Rattle.row_judge.proofs.Saying.{brackets_start, brackets_end, brackets_lent, brackets_room, brackets_yes, brackets_behind, brackets_less, brackets_next, telling_start, telling_end, step_test, step_not, step_connect, step_unknown, bracket_room, part-size, bracket_ready, step_bracket, ready-value, ready_test, ready_kept, bracketed_value, bracketed_inner, bracketed_index, bracketed_chain, bracket_known, bracket_closed}
+use Rattle.row_judge.proofs.Saying.{brackets_start, brackets_end, brackets_room, brackets_yes, brackets_behind, brackets_less, brackets_next, telling_start, telling_end, step_test, step_not, step_connect, step_unknown, bracket_room, part-size, bracket_ready, step_bracket, ready-value, ready_test, ready_kept, bracketed_value, bracketed_inner, bracketed_index, bracketed_chain, bracket_known, bracket_closed}
 use Rattle.row_judge.proofs.says.+saying.Goals as goal
 
 pub bracket_says-bounds-values-0 : goal.bracket_says-bounds-values-0
@@ -27,11 +27,8 @@ bracket_says-next_text-next-requires-clause-known t c = search (bracket_known, r
 pub bracket_says-loop-next-init : goal.bracket_says-loop-next-init
 bracket_says-loop-next-init t c = search (brackets_start, rules)
 
-pub bracket_says-occurrence_of-requires-clause-lent : goal.bracket_says-occurrence_of-requires-clause-lent
-bracket_says-occurrence_of-requires-clause-lent t c = search (brackets_lent, rules)
-
-pub bracket_says-occurrence_of-requires-clause-e_bound : goal.bracket_says-occurrence_of-requires-clause-e_bound
-bracket_says-occurrence_of-requires-clause-e_bound t c = search (brackets_room, rules)
+pub bracket_says-occurrence_of-requires : goal.bracket_says-occurrence_of-requires
+bracket_says-occurrence_of-requires t c = search (brackets_room, rules)
 
 pub bracket_says-slice_bounds-rows_say-count-in-loop-next : goal.bracket_says-slice_bounds-rows_say-count-in-loop-next
 bracket_says-slice_bounds-rows_say-count-in-loop-next t c = search (bracketed_value, rules)
@@ -45,11 +42,8 @@ bracket_says-rows_say-requires t c = (omega (arith, c.decreases, c.requires.some
 pub bracket_says-returns-then-rows_say : goal.bracket_says-returns-then-rows_say
 bracket_says-returns-then-rows_say t c = search (brackets_yes, rules)
 
-pub bracket_says-chain_behind-behind-requires-clause-lent : goal.bracket_says-chain_behind-behind-requires-clause-lent
-bracket_says-chain_behind-behind-requires-clause-lent t c = search (brackets_lent, rules)
-
-pub bracket_says-chain_behind-behind-requires-clause-e_bound : goal.bracket_says-chain_behind-behind-requires-clause-e_bound
-bracket_says-chain_behind-behind-requires-clause-e_bound t c = search (brackets_room, rules)
+pub bracket_says-chain_behind-behind-requires : goal.bracket_says-chain_behind-behind-requires
+bracket_says-chain_behind-behind-requires t c = search (brackets_room, rules)
 
 pub bracket_says-next_text-next-requires-in-loop-next-clause-on_chain : goal.bracket_says-next_text-next-requires-in-loop-next-clause-on_chain
 bracket_says-next_text-next-requires-in-loop-next-clause-on_chain t c = brackets_behind _ _ _ _ _ _ _ _ _ _ c.loop-next.invariant c.loop-next-test.true _ c.chain_behind-behind.ensures
