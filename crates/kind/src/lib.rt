@@ -64,7 +64,7 @@ pub struct Readings {
 }
 
 // What an operator means for a kind: whether there is a text at all; that some text stands in the relation, or that
-// some text does not; or nothing.
+// some text does not; or nothing, which is an arm as the others are, since the table of operators and kinds has it in its places.
 #[derive(Clone, Copy)]
 pub enum Meaning {
     Present,

@@ -1,4 +1,5 @@
-// Lines of the output. Each is put over the first bytes of a part of a buffer.
+// Lines of the output. Each is put over the first bytes of a part of a buffer: not by `write!`, since the bytes may be no text and what is left behind
+// them in the buffer is promised too.
 ghost use Rattle.std.specs.Prelude.{◌+◌, ◌*◌, ◌≤◌, ◌≡◌, ◌++◌, length};
 ghost use Rattle.base.specs.Writing.{Room, Puts};
 ghost use Rattle.listing.specs.Lines.{decimal, labelled, number_line, lines, refusal_line, count_line, failure_line};

@@ -62,11 +62,8 @@ pub fn raise_all(rows: &mut [Tally], cards: &[u8], n: usize, steps: usize)
     requires { (k : ℕ) → k < steps → Ready cards.now n k rows.old }
     ensures { rows.new ≡ stepped cards.now n steps rows.old }
 {
-    let mut j: usize = 0;
-    while j < steps {
+    for j in 0..steps {
         let i = index_of(n, j);
-        let r = rows[i];
-        rows[i] = raised(cards, n, j, r);
-        j = j + 1;
+        rows[i] = raised(cards, n, j, rows[i]);
     }
 }

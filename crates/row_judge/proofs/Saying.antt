@@ -629,7 +629,6 @@ module _ (xs rows : List ℕ) (values : List (Option Opened)) (card : List ℕ) 
     answer = some_entry says k i m (value_of xs o) (entries_of card)
 
     module _ (l : 0 < n) where
-
       pub brackets_room : n - 1 < 64
       brackets_room = choosing_room says k i m (value_of xs o) card kept answer n inv.choosing l
 

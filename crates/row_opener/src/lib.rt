@@ -19,6 +19,7 @@ pub enum ValueReading {
 // read to.
 #[derive(Clone, Copy)]
 pub struct Opened {
+    // no Options: a value that was opened has all its parts, whatever the flags say
     pub escaped: bool,
     pub truth: bool,
     pub start: u16,

@@ -20,7 +20,7 @@ pub struct Probe {
 }
 
 // What a cell says: a test, brackets with the number of rows in them (which stand behind the row of the test after them), not, a connective
-// with the number of rows of its second part, or nothing.
+// with the number of rows of its second part, or nothing: cells come from anybody, and what says nothing is told by every match.
 #[derive(Clone, Copy)]
 pub enum Row {
     Test(Probe),

@@ -180,6 +180,7 @@ pub fn select_by(
 ) -> Result<usize, Refusal>
     ensures { Selects (filter_question sheet.now filter.now) cards.now list.old result list.new }
 {
+    // two ways through two functions: no step is switched on inside a loop
     match engine {
         Engine::Rows => select_by_rows(sheet, filter, cards, list),
         Engine::Text => select_by_text(sheet, filter, cards, list),

@@ -67,7 +67,7 @@ pub extern "C" fn sirophan_select(
     Answer::from(sirophan::select(sheet, filter, cards, list))
 }
 
-// The engine of a number.
+// The engine of a number: no enum crosses to C.
 #[tactic(auto, unfolding(crate::specs::Engines::engine_of))]
 fn engine_of(number: u32) -> Engine
     ensures { result ≡ engine_of number }

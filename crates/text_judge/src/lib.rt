@@ -27,6 +27,7 @@ use syntax::{Connective, Head, RawTest, read_close, read_connective, read_head, 
 #[derive(Clone, Copy)]
 pub struct Judged {
     pub end: usize,
+    // no Option: what was judged says yes or no
     pub says: bool,
 }
 
