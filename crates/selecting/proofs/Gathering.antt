@@ -1,7 +1,7 @@
 -- The loop of `gather`: what the run comes to is the numbers gathered, and then what the cards to come add to them.
 -- The invariant is the field `rest`: the numbers of the run are the first `count` in the buffer and then those of the cards from the index
 -- on. A turn takes the card at the position off the run (`split`): where it matches its number is added, where it does not the buffer
--- stays, and where it is refused the loop and the run both stop at its index. A position is its card's index times 512. There are no more
+-- stays, and where it is refused the loop and the run both stop at its index. There are no more
 -- numbers than cards seen (`few`), so the buffer has room. A card with a verdict is well formed (`judged_well_formed`).
 -- Assumes nothing.
 use Rattle.std.specs.Prelude.{Err, Ok, Result}
@@ -59,26 +59,22 @@ onto_same : (s : Step (List ℕ)) → (s >>= λ ms. found ms) ≡ s
 onto_same (found ms) = refl
 onto_same (stop n p) = refl
 
-pub record Gathering (q : Question) (cards entry buffer : List ℕ) (at count : ℕ) : Type 0 where
-  -- the index of the card at `at`, and how many cards there are
-  pub index : ℕ
+pub record Gathering (q : Question) (cards entry buffer : List ℕ) (index count : ℕ) : Type 0 where
+  -- how many cards there are
   pub total : ℕ
-  pub at_index : at ≡ index * 512
   pub size : length cards ≡ total * 512
   pub seen : index ≤ total
   pub few : count ≤ index
   pub room : total ≤ length buffer
   pub long : length buffer ≡ length entry
   pub short : length buffer ≤ 128
-  pub rest : run_numbers q 0 (blocks total cards) ≡ onto (take count buffer) (run_numbers q index (blocks (total - index) (drop at cards)))
+  pub rest : run_numbers q 0 (blocks total cards) ≡ onto (take count buffer) (run_numbers q index (blocks (total - index) (drop (512 * index) cards)))
 
 module _ (q : Question) (cards : List ℕ) where
   pub gathering_start : (buffer : List ℕ) → length cards % 512 ≡ 0 → length cards / 512 ≤ length buffer → length buffer ≤ 128 → Gathering q cards buffer buffer 0 0
   gathering_start buffer w h s =
       record {
-        index = 0;
         total = length cards / 512;
-        at_index = refl;
         size = omega arith;
         seen = zero-le;
         few = zero-le;
@@ -88,74 +84,75 @@ module _ (q : Question) (cards : List ℕ) where
         rest = rw (sub-zero (length cards / 512)) (onto_none (run_numbers q 0 (blocks (length cards / 512) cards)));
       }
 
-  module _ {entry buffer : List ℕ} {at count : ℕ} (g : Gathering q cards entry buffer at count) where
-    pub gathering_part : at < length cards → at + 512 ≤ length cards
-    gathering_part h = omega (arith, g.at_index, g.size)
+  module _ {entry buffer : List ℕ} {index count : ℕ} (g : Gathering q cards entry buffer index count) (h : index < length cards / 512) where
+    pub gathering_part : (at : ℕ) → at ≡ 512 * index → at + 512 ≤ length cards
+    gathering_part at e = omega (arith, e, h, g.size)
 
-    pub gathering_room : at < length cards → count < length buffer
-    gathering_room h = omega (arith, g.at_index, g.size, g.few, g.room)
+    pub gathering_scaled_index : Fits w64 (512 * index)
+    gathering_scaled_index = record { fits = omega (arith, h, g.size, g.room, g.short) }
 
-    pub gathering_scaled : at < length cards → Fits w64 (count * 4)
-    gathering_scaled h = record { fits = omega (arith, gathering_room h, g.short) }
+    pub gathering_room : count < length buffer
+    gathering_room = omega (arith, h, g.size, g.few, g.room)
 
-    pub gathering_more : at < length cards → Fits w64 (count + 1)
-    gathering_more h = record { fits = omega (arith, gathering_room h, g.short) }
+    pub gathering_scaled : Fits w64 (count * 4)
+    gathering_scaled = record { fits = omega (arith, gathering_room, g.short) }
+
+    pub gathering_more : Fits w64 (count + 1)
+    gathering_more = record { fits = omega (arith, gathering_room, g.short) }
 
     pub gathering_well_formed : (b : List ℕ) (v : Result Bool Reason) → ((i : ℕ) → verdict_step v i ≡ card_verdict q i b) → (y : Bool) → v ≡ Ok y → read_card b ≡ (Ok tt)
     gathering_well_formed b v e y s = judged_well_formed q b y (sym (e 0) ∙ ap (λ (w : Result Bool Reason). verdict_step w 0) s)
 
-    module _ (h : at < length cards) (v : Result Bool Reason) (e : (i : ℕ) → verdict_step v i ≡ card_verdict q i (part cards at (at + 512))) where
+    module _ (at : ℕ) (p : at ≡ 512 * index) (v : Result Bool Reason) (e : (i : ℕ) → verdict_step v i ≡ card_verdict q i (part cards at (at + 512))) where
       abbrev later : Step (List ℕ)
-      later = run_numbers q (suc g.index) (blocks (g.total - suc g.index) (drop (at + 512) cards))
+      later = run_numbers q (suc index) (blocks (g.total - suc index) (drop (512 * suc index) cards))
 
       -- the card at `at`, and then the cards after it
       split : run_numbers q 0 (blocks g.total cards)
-          ≡ onto (take count buffer) (verdict_step v g.index >>= λ y. later >>= λ ns. found (cond y (record_number (part cards at (at + 512)) ∷ ns) ns))
+          ≡ onto (take count buffer) (verdict_step v index >>= λ y. later >>= λ ns. found (cond y (record_number (part cards at (at + 512)) ∷ ns) ns))
       unfolding run_numbers blocks
       split =
-          let n : g.total - g.index ≡ suc (g.total - suc g.index) = omega (arith, g.at_index, g.size) in
+          let n : g.total - index ≡ suc (g.total - suc index) = omega (arith, h, g.size) in
           let m : at + 512 - at ≡ 512 = omega arith in
-          g.rest ∙ rw (n, e g.index, m, ← drop-drop 512 at cards)
+          let behind : 512 * suc index ≡ at + 512 = omega (arith, p) in
+          g.rest ∙ rw (n, e index, m, behind, ← p, ← drop-drop 512 at cards)
 
-      next : (filled : List ℕ) (n : ℕ) → length filled ≡ length buffer → n ≤ suc g.index
-          → run_numbers q 0 (blocks g.total cards) ≡ onto (take n filled) later → Gathering q cards entry filled (at + 512) n
+      next : (filled : List ℕ) (n : ℕ) → length filled ≡ length buffer → n ≤ suc index
+          → run_numbers q 0 (blocks g.total cards) ≡ onto (take n filled) later → Gathering q cards entry filled (index + 1) n
       next filled n l few rest =
           record {
-            index = suc g.index;
             total = g.total;
-            at_index = omega (arith, g.at_index);
             size = g.size;
-            seen = omega (arith, g.at_index, g.size);
-            few = few;
+            seen = omega (arith, h, g.size);
+            few = omega (arith, few);
             room = rw l g.room;
             long = l ∙ g.long;
             short = omega (arith, l, g.short);
-            rest = rest;
+            rest = rw (add-one index) rest;
           }
 
-      pub gathering_match : (y : Bool) (x : ℕ) → v ≡ Ok y → y ≡ true → x ≡ record_number (part cards at (at + 512)) → Gathering q cards entry (set buffer count x) (at + 512) (count + 1)
+      pub gathering_match : (y : Bool) (x : ℕ) → v ≡ Ok y → y ≡ true → x ≡ record_number (part cards at (at + 512)) → Gathering q cards entry (set buffer count x) (index + 1) (count + 1)
       gathering_match y x s t r =
           next (set buffer count x) (count + 1) (length-set buffer count x) (omega (arith, g.few))
-          (split ∙ rw (s, t, ← r, add-one count, take-suc-set buffer count x (gathering_room h)) (onto_more (take count buffer) x later))
+          (split ∙ rw (s, t, ← r, add-one count, take-suc-set buffer count x gathering_room) (onto_more (take count buffer) x later))
 
-      pub gathering_other : (y : Bool) → v ≡ Ok y → y ≡ false → Gathering q cards entry buffer (at + 512) count
+      pub gathering_other : (y : Bool) → v ≡ Ok y → y ≡ false → Gathering q cards entry buffer (index + 1) count
       gathering_other y s t = next buffer count refl (omega (arith, g.few)) (split ∙ rw (s, t, onto_same later))
 
-      pub gathering_refused : (r : Refusal) → v ≡ Err r.reason → r.place ≡ at / 512 → Gathers q cards (Err r) buffer
+      pub gathering_refused : (r : Refusal) → v ≡ Err r.reason → r.place ≡ index → Gathers q cards (Err r) buffer
       gathering_refused r s t =
-          let i : at / 512 ≡ g.index = omega (arith, g.at_index) in
           let n : length cards / 512 ≡ g.total = omega (arith, g.size) in
           record {
-            numbers = rw (n, t, i) (sym (split ∙ rw s));
+            numbers = rw (n, t) (sym (split ∙ rw s));
             room = λ k z. absurd (let z : ◌≡◌ {A = ℕ} 0 1 = cc in omega arith);
           }
 
-    pub gathering_end : length cards ≤ at → Gathers q cards (Ok count) buffer
-    unfolding run_numbers blocks
-    gathering_end h =
-        let d : g.total - g.index ≡ 0 = omega (arith, g.at_index, g.size) in
-        let n : length cards / 512 ≡ g.total = omega (arith, g.size) in
-        record {
-          numbers = rw n (sym (g.rest ∙ rw (d) (ap found (append-nil (take count buffer)))));
-          room = λ k z. let s : count ≡ k = cc in omega (arith, g.few, g.seen, g.room);
-        }
+  pub gathering_end : {entry buffer : List ℕ} {index count : ℕ} → Gathering q cards entry buffer index count → length cards / 512 ≤ index → Gathers q cards (Ok count) buffer
+  unfolding run_numbers blocks
+  gathering_end {entry} {buffer} {index} {count} g h =
+      let d : g.total - index ≡ 0 = omega (arith, h, g.size) in
+      let n : length cards / 512 ≡ g.total = omega (arith, g.size) in
+      record {
+        numbers = rw n (sym (g.rest ∙ rw (d) (ap found (append-nil (take count buffer)))));
+        room = λ k z. let s : count ≡ k = cc in omega (arith, g.few, g.seen, g.room);
+      }

@@ -30,23 +30,21 @@ fn gather<A: Asking>(asking: &mut A, cards: &[u8], buffer: &mut [u32]) -> Result
     requires buffer_len_bound { length buffer.old ≤ 128 }
     ensures { Gathers (A.question asking.old) cards.now result buffer.new }
 {
-    let mut at = 0;
     let mut count = 0;
-    while at < cards.len() {
-        let end = at + 512;
-        let card = &cards[at..end];
+    for index in 0..cards.len() / 512 {
+        let at = 512 * index;
+        let card = &cards[at..at + 512];
         match asking.verdict(card) {
             Ok(yes) => {
                 if yes {
                     buffer[count] = Card { bytes: card }.record_number();
                     count += 1;
                 }
-                at = end;
             }
             Err(reason) => {
                 return Err(Refusal {
                     reason,
-                    place: at / 512,
+                    place: index,
                 });
             }
         }
