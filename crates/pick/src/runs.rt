@@ -140,7 +140,7 @@ pub fn print_matches<R: Read>(
         matches: 0,
         cards: 0,
     };
-    // no for: the totals say how far the file was read
+    // no for: how many runs there are is known only when a read brings fewer than 128 cards
     while totals.cards < MOST_CARDS {
         let Some(more) = next_run(rt, sheet, filter, file, buffer, totals) else {
             return;

@@ -91,6 +91,7 @@ pub fn ask(
     filter: &[u8],
     cards: &[u8],
 ) -> bool {
+    // an operation is a number in the file of cases
     match operation {
         0 => ask_check(rt, label, sheet, filter),
         1 => ask_match(rt, label, sheet, filter, cards),
