@@ -29,7 +29,7 @@ use Rattle.sheet.specs.Sheet.{Parameter}
 use Rattle.sheet.specs.Encode.{ValueKind, WellFormedParameter, WellFormedSheet}
 use Rattle.card.specs.Card.{Entry, entry, entries_of, read_card}
 use Rattle.card.specs.Encode.{encode_card, ReadsAsCard}
-use Rattle.card.proofs.Read.{card-length}
+use Rattle.card.proofs.Read.{card_length}
 use Rattle.card.proofs.Cards.{card_reads_iff, card_of_lem, empty_card_lem, one_entry-card}
 use Rattle.kind.specs.Table.{Kind, kinds, of_kind}
 use Rattle.kind.specs.Readable.{card_readable, witness_text}
@@ -48,7 +48,7 @@ module _ {ps : List Parameter} {b : List ℕ} {es : List Entry} (c : Conforms ps
   conforms_reads = (card_reads_iff b c.marked c.number es).1 (c.well_formed, c.encoded)
 
   pub conforms-size : length b ≡ 512
-  conforms-size = card-length b conforms_reads.reading
+  conforms-size = card_length b conforms_reads.reading
 
   pub conforms-bytes : Bytes b
   conforms-bytes = conforms_reads.bytes

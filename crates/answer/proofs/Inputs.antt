@@ -8,12 +8,13 @@ use Rattle.std.specs.Prelude.{Err, Ok, Result, ⊤, Option as Maybe, None, Some}
 use Prim.Native.Nat.{ℕ, ◌≤◌}
 use native.Mathlib.Omega.{arith}
 use mathlib.Core.Path.{◌≡◌, refl, ap}
-use mathlib.Core.Bool.{◌||◌}
+use mathlib.Core.Bool.{Bool, true, false, cond, ◌||◌}
 use mathlib.Core.Option.{Option, none, some}
 use mathlib.Core.List.{List, [], ◌∷◌}
 use lib.Dec.{eqb, ltb}
 use lib.ListN.{length}
 use borrow.Author.Tests.{ne_eqb, le-ltb}
+use Rattle.std.proofs.lemmas.Bool.{ltb-false}
 use Rattle.base.specs.Lists.{all_empty, all_cons}
 use Rattle.base.specs.Kinds.{bundle_kind}
 use Rattle.base.proofs.Tests.{cond-elim}
@@ -33,9 +34,10 @@ use Rattle.judge.specs.Sets.{lookup}
 use Rattle.judge.specs.Faults.{unsupported, kind_fault, fault_at, test_fault, first_fault}
 use Rattle.refusal.specs.Decisions.{or_else}
 use Rattle.refusal.specs.Answers.{yes_or_no, count, number_of}
-use Rattle.refusal.specs.Steps.{Step, found, stop, ◌>>=◌, answer}
+use Rattle.refusal.specs.Steps.{Step, found, stop, refusal_step, ◌>>=◌, answer}
 use Rattle.answer.specs.Operations.{sheet_step, accept_sheet, tree_step, accept_filter, decision_step, tests_step, Inputs, accept_inputs, accept_card, check_answer, Question, question_of, match_by, filter_question}
 use Rattle.answer.specs.Demand.{TestRules, filter_tests}
+use Rattle.answer.specs.Preparing.{accept_size}
 use Rattle.answer.proofs.Outcomes.{TestOutcome, test_means, test_refused, TestsOutcome, all_mean, one_refused, AtMost, found_at_most, stop_at_most}
 use Rattle.answer.proofs.Faults.{outcome}
 use Rattle.refusal.specs.declared.Refusal.{Refusal}
@@ -92,13 +94,39 @@ spells_length : (text : List ℕ) (f : Tree) → Spells text f → length text �
 spells_length [] f s e = spells_not_empty f s
 spells_length (x ∷ xs) f s e = omega arith
 
--- a text that is neither empty nor too long is accepted as what it reads to
-pub text_read : (xs : List ℕ) → (length xs ≡ 0 → ⊥) → length xs ≤ 1024 → (o : Option Tree) → read xs ≡ o → accept_filter xs ≡ tree_step xs o
-unfolding accept_filter
-text_read xs n l o e = rw (ne_eqb (length xs) 0 n, le-ltb 1024 (length xs) l, e)
+-- a text of the right size is accepted as what it reads to
+pub text_read : (xs : List ℕ) → accept_size xs ≡ found tt → (o : Option Tree) → read xs ≡ o → accept_filter xs ≡ tree_step xs o
+unfolding accept_filter accept_size
+text_read xs a o e = go (eqb (length xs) 0 || ltb 1024 (length xs)) a
+  where
+    go : (b : Bool) → cond b (stop 10 0) (found (tt {0})) ≡ found (tt {0}) → cond b (stop 10 0) (tree_step xs (read xs)) ≡ tree_step xs o
+    go true h = let y : ◌≡◌ {A = ℕ} 0 1 = cc in absurd (omega arith)
+    go false h = ap (tree_step xs) e
+
+-- and one of another size is refused
+pub size_refused : (xs : List ℕ) (r : Refusal) → accept_size xs ≡ refusal_step r → accept_filter xs ≡ refusal_step r
+unfolding accept_filter accept_size
+size_refused xs r a = go (eqb (length xs) 0 || ltb 1024 (length xs)) a
+  where
+    go : (b : Bool) → cond b (stop 10 0) (found (tt {0})) ≡ refusal_step r → cond b (stop 10 0) (tree_step xs (read xs)) ≡ refusal_step r
+    go true h = cc
+    go false h = let y : ◌≡◌ {A = ℕ} 0 1 = cc in absurd (omega arith)
+
+pub size_short : (xs : List ℕ) → accept_size xs ≡ found tt → length xs ≤ 1024
+unfolding accept_size
+size_short xs a = go (eqb (length xs) 0) (ltb 1024 (length xs)) refl a
+  where
+    go : (b d : Bool) → ltb 1024 (length xs) ≡ d → cond (b || d) (stop 10 0) (found (tt {0})) ≡ found (tt {0}) → length xs ≤ 1024
+    go true d e h = let y : ◌≡◌ {A = ℕ} 0 1 = cc in absurd (omega arith)
+    go false true e h = let y : ◌≡◌ {A = ℕ} 0 1 = cc in absurd (omega arith)
+    go false false e h = ltb-false 1024 (length xs) e
+
+pub right_size : (xs : List ℕ) → (length xs ≡ 0 → ⊥) → length xs ≤ 1024 → accept_size xs ≡ found tt
+unfolding accept_size
+right_size xs n l = rw (ne_eqb (length xs) 0 n, le-ltb 1024 (length xs) l)
 
 filter_accepted : (text : List ℕ) (f : Tree) → length text ≤ 1024 → Spells text f → accept_filter text ≡ found f
-filter_accepted text f short s = text_read text (spells_length text f s) short (some f) ((read_iff text f).1 s)
+filter_accepted text f short s = text_read text (right_size text (spells_length text f s) short) (some f) ((read_iff text f).1 s)
 
 pub inputs_accepted : (sheet text : List ℕ) (s : SheetBlock sheet) (f : Tree) → length text ≤ 1024 → Spells text f
     → accept_inputs sheet text ≡ (tests_step s.parameters (tests_of f) >>= λ u. found (record { parameters = s.parameters; filter = f }))

@@ -11,7 +11,7 @@ use Rattle.rows.specs.Cells.{encode, stated}
 use Rattle.rows.specs.Shapes.{good}
 use Rattle.rows.specs.Stated.{tree_of}
 use Rattle.row_writer.specs.Writing.{prepared}
-use Rattle.refusal.specs.Answers.{Answer, yes_or_no, count, number_of, refusal_answer, counted_answer}
+use Rattle.refusal.specs.Answers.{Answer, yes_or_no, count, number_of, counted_answer}
 use Rattle.refusal.specs.Steps.{Step, found, stop, ◌>>=◌, answer}
 use Rattle.answer.specs.Operations.{accept_sheet, accept_filter, tests_step, accept_inputs, accept_card, written}
 use Rattle.refusal.specs.declared.Refusal.{Refusal}

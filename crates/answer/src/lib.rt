@@ -5,7 +5,7 @@
 mod accept;
 mod list;
 
-pub use accept::accept_sheet;
+pub use accept::{accept_sheet, accept_text};
 pub use list::write;
 
 // Which way a filter is judged: by its rows, or by its text, which is slower and shares no evaluation with the rows. Both answer the same.

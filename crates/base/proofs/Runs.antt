@@ -12,7 +12,7 @@ use lib.Dec.{eqb}
 use lib.ListN.{length, get_or, take, drop, length-drop, drop_of_length-le}
 use lib.Seq.{drop-cons}
 use borrow.Author.Tests.{ltb-false}
-use Rattle.std.specs.Prelude.{Some, None}
+use Rattle.std.specs.Prelude.{Option, Some, None, MatchOption}
 use Rattle.std.specs.List.{prefix_len, position}
 use Rattle.base.specs.Lists.{All, all_empty, all_cons, every}
 use Rattle.base.specs.Runs.{run, run_end, differs, RunEnd}
@@ -100,17 +100,21 @@ module _ (x : ℕ) (s : List ℕ) (at : ℕ) (h : at ≤ length s) where
   place_within : run (differs x) (drop at s) + at ≤ length s
   place_within = omega (arith, run-within (differs x) (drop at s), length-drop at s)
 
-  pub place_found : (n : ℕ) → Some n ≡ position (λ (y : ℕ). eqb y x) (drop at s) → RunEnd (differs x) s at (at + n)
+  place_found : (n : ℕ) → Some n ≡ position (λ (y : ℕ). eqb y x) (drop at s) → RunEnd (differs x) s at (at + n)
   unfolding run_end
   place_found n e =
       let k : n ≡ run (differs x) (drop at s) = some_there _ _ _ e ∙ run_prefix (differs x) (drop at s) in
       record { is = omega arith; from = omega arith; within = omega (arith, place_within) }
 
-  pub place_missing : None ≡ position (λ (y : ℕ). eqb y x) (drop at s) → RunEnd (differs x) s at (length s)
+  place_missing : None ≡ position (λ (y : ℕ). eqb y x) (drop at s) → RunEnd (differs x) s at (length s)
   unfolding run_end
   place_missing e =
       let k : length (drop at s) ≤ run (differs x) (drop at s) = rw (← run_prefix (differs x) (drop at s)) (ltb-false _ _ (none_there _ _ e)) in
       record { is = omega (arith, k, place_within, length-drop at s); from = h; within = omega arith }
+
+  pub place_ended : (r : ℕ) (Q : ℕ → Type 0) (o : Option ℕ) → o ≡ position (λ (y : ℕ). eqb y x) (drop at s) → MatchOption o (r ≡ length s) Q → ((n : ℕ) → Q n → r ≡ at + n) → RunEnd (differs x) s at r
+  place_ended r Q None e d k = rw d (place_missing e)
+  place_ended r Q (Some n) e d k = rw (k n d) (place_found n e)
 
 -- ---- a scan from an index on, which has come to i: what is left decides where it ends
 

@@ -18,6 +18,7 @@ impl Kind {
     pub fn of(number: u8) -> Option<Kind>
         ensures { KindOf number result }
     {
+        // the one table of the numbers: Rust has no conversion of a number to an enum
         match number {
             1 => Some(Kind::String),
             2 => Some(Kind::Number),

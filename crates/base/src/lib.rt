@@ -21,12 +21,11 @@ pub fn is_digit(b: u8) -> bool
     b.is_ascii_digit()
 }
 
-// Whether two slices hold the same bytes.
+// Whether two slices hold the same bytes. It stays beside `==`, since the definitions of names and words ask for `equal`.
 #[tactic(auto, using(crate::proofs::Lists::pointwise_equal))]
 pub fn equal(a: &[u8], b: &[u8]) -> bool
     ensures { result ≡ equal a.now b.now }
 {
-    // a function of its own, since the definitions of names and words ask for `equal`
     a == b
 }
 
@@ -35,10 +34,10 @@ pub fn first_from(s: &[u8], from: usize, byte: u8) -> usize
     requires { from ≤ length s.now }
     ensures { RunEnd (differs byte) s.now from result }
 {
-    match s[from..].iter().position(|b| *b == byte) {
-        Some(before) => from + before,
-        None => s.len(),
-    }
+    s[from..]
+        .iter()
+        .position(|b| *b == byte)
+        .map_or(s.len(), |before| from + before)
 }
 
 // The first position where the byte stands, or the length where it does not.

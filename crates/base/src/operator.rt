@@ -25,13 +25,14 @@ pub enum Operator {
 }
 
 impl Operator {
-    // How many operators there are.
+    // How many operators there are: what the number of a cell is tested against.
     pub const COUNT: u8 = 19;
 
     // The operator that has the number, if one has.
     pub fn of(number: u8) -> Option<Operator>
         ensures { OperatorOf number result }
     {
+        // the one table of the numbers: Rust has no conversion of a number to an enum
         match number {
             0 => Some(Operator::Eq),
             1 => Some(Operator::Ne),

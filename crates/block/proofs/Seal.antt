@@ -52,10 +52,6 @@ check_sealed b h =
 pub check_iff : (b : List ℕ) → (check b ≡ (Ok tt)) ↔ IsSealed b
 check_iff b = (check_sealed b, (λ s. sym (check_right b s.size (check_sum b) (word b 508) refl refl s.sum)))
 
--- the size of a block that was checked
-pub check-length : (b : List ℕ) (r : Result ⊤ Flaw) → r ≡ check b → r ≡ (Ok tt) → length b ≡ 512
-check-length b r e k = (check_sealed b (sym e ∙ k)).size
-
 -- ---- the seal of a body
 
 -- what follows a body in its seal

@@ -33,9 +33,6 @@ pub record Stands (b : List ℕ) (i : Item) : Type 0 where
   pub text : i.text.now ≡ part b i.start (i.start + length i.text.now)
 
 module _ (s : Walker) (i : Item) (t : Walker) (h : Steps s i t) (w : Walk s.block.now s.at s.left) where
-  pub step_walk : Walk t.block.now t.at t.left
-  step_walk = rw (h.block, h.at, h.left) (walk_next s.block.now s.at s.left w h.some)
-
   -- the text ends where the next item starts
   step_end : i.start + length i.text.now ≡ next s.block.now s.at
   unfolding text_at next

@@ -1,7 +1,7 @@
 -- Items: what a block lists, a sheet its parameters and a card its entries. An item is a byte, in a block with marks
 -- a second byte, the length of a text, and the text.
 -- Assumes nothing.
-use Rattle.std.specs.Prelude.{ℕ, zero, suc, ◌+◌, ◌-◌, ◌≤◌, ◌<◌, ◌≡◌, Bool, true, false, cond, ◌&&◌, ◌||◌, List, [], ◌∷◌, ◌++◌, leb, eqb, get_or, Option, Some, None}
+use Rattle.std.specs.Prelude.{ℕ, zero, suc, ◌+◌, ◌≤◌, ◌<◌, ◌≡◌, Bool, true, false, cond, ◌&&◌, ◌||◌, List, [], ◌∷◌, ◌++◌, leb, eqb, get_or, Option, Some, None}
 use Rattle.base.specs.Lists.{every}
 use Rattle.base.specs.Parts.{part}
 use Rattle.block.specs.Seal.{HasSize}

@@ -4,7 +4,6 @@ ghost use Rattle.std.specs.Prelude.{◌≡◌, ◌+◌, ◌*◌, ◌≤◌, ◌<
 ghost use Rattle.base.specs.Parts.{part};
 ghost use Rattle.block.specs.Sum.{sum_from, check_sum};
 ghost use Rattle.block.specs.Columns.{ColumnAt, ColumnsTo, last_four};
-ghost use Rattle.block.specs.Seal.{HasSize};
 ghost use Rattle.block.specs.Items.{zeros};
 
 // The sums of a column: of its bytes, and of its bytes each times its row, counted from 0.
@@ -14,7 +13,8 @@ struct Column {
     rows: u16,
 }
 
-// The sums of all columns.
+// The sums of all columns. Two arrays, and no array of Column: with that a block takes 528 instructions in place of 484 (the same loops in C),
+// more than 1 in 100 of select on a full card.
 #[derive(Clone, Copy)]
 struct Columns {
     sums: [u16; 32],
@@ -22,10 +22,10 @@ struct Columns {
 }
 
 // The sums of the column `j`, from the last row to the first. Each row adds the bytes of all rows below it to `rows`, so that a byte
-// is added once for each row above it.
-fn column_at(block: &[u8], j: usize) -> Column
-    requires has_size { HasSize block.now }
-    requires j_bound { j < 32 }
+// is added once for each row above it. `j < 32` stays a clause here and in two more: it is the index of a for, and a type of its own for it
+// would be made in each loop and taken apart in each function.
+fn column_at(block: &[u8; 512], j: usize) -> Column
+    requires { j < 32 }
     ensures { ColumnAt block.now 16 j result }
 {
     let mut sum: u16 = 0;
@@ -38,8 +38,7 @@ fn column_at(block: &[u8], j: usize) -> Column
 }
 
 // The sums of all columns.
-fn columns_of(block: &[u8]) -> Columns
-    requires { HasSize block.now }
+fn columns_of(block: &[u8; 512]) -> Columns
     ensures { ColumnsTo block.now result.sums result.rows 32 }
 {
     let mut sums = [0u16; 32];
@@ -57,12 +56,11 @@ fn column_total(j: usize, sum: u16, rows: u16) -> u32
     requires { j < 32 }
     ensures { (result ≡ 32 * rows + (j + 1) * sum) × (result ≤ 4194304) }
 {
-    32 * rows as u32 + (j as u32 + 1) * sum as u32
+    32 * u32::from(rows) + (j as u32 + 1) * u32::from(sum)
 }
 
 // What the bytes 508 to 511 add to it.
-fn last_four(block: &[u8]) -> u32
-    requires { HasSize block.now }
+fn last_four(block: &[u8; 512]) -> u32
     ensures { result ≡ last_four block.now }
 {
     let a = u32::from(block[508]);
@@ -73,8 +71,7 @@ fn last_four(block: &[u8]) -> u32
 }
 
 // The sum of the first 508 bytes, each times its place counted from 1.
-pub fn check_sum(block: &[u8]) -> u32
-    requires { HasSize block.now }
+pub fn check_sum(block: &[u8; 512]) -> u32
     ensures { result ≡ check_sum block.now }
 {
     let columns = columns_of(block);
@@ -86,9 +83,8 @@ pub fn check_sum(block: &[u8]) -> u32
 }
 
 // The sums of the column `j` in the first four rows.
-fn short_column(block: &[u8], j: usize) -> Column
-    requires has_size { HasSize block.now }
-    requires j_bound { j < 32 }
+fn short_column(block: &[u8; 512], j: usize) -> Column
+    requires { j < 32 }
     ensures { ColumnAt block.now 4 j result }
 {
     let a = u16::from(block[j]);
@@ -102,8 +98,7 @@ fn short_column(block: &[u8], j: usize) -> Column
 }
 
 // The sum of the bytes in the first four rows, each times its place counted from 1.
-fn short_sum(block: &[u8]) -> u32
-    requires { HasSize block.now }
+fn short_sum(block: &[u8; 512]) -> u32
     ensures { result ≡ sum_from 1 (part block.now 0 128) }
 {
     let mut total: u32 = 0;
@@ -115,9 +110,8 @@ fn short_sum(block: &[u8]) -> u32
 }
 
 // The check sum of a block whose bytes from `end` to 507 are zero: rows behind `end` add nothing.
-pub fn check_sum_to(block: &[u8], end: usize) -> u32
-    requires has_size { HasSize block.now }
-    requires end_value { zeros (part block.now end 508) ≡ true }
+pub fn check_sum_to(block: &[u8; 512], end: usize) -> u32
+    requires { zeros (part block.now end 508) ≡ true }
     ensures { result ≡ check_sum block.now }
 {
     let short = end <= 128;

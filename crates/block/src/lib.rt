@@ -4,9 +4,9 @@
 mod columns;
 mod walker;
 
-ghost use Rattle.std.specs.Prelude.{◌≡◌, ◌&&◌, ◌+◌, ◌≤◌, ◌<◌, length};
+ghost use Rattle.std.specs.Prelude.{◌≡◌, ◌&&◌, ◌+◌, ◌≤◌, ◌<◌, length, IfOk, IfErr, Ok, Err};
 ghost use Rattle.block.specs.Words.{word};
-ghost use Rattle.block.specs.Seal.{HasSize, check};
+ghost use Rattle.block.specs.Seal.{check};
 ghost use Rattle.block.specs.Items.{zeros, has_marks, laid_out, has_layout, has_either, PlaceAt, LaysOut};
 ghost use Rattle.block.specs.Readings.{reading};
 
@@ -22,6 +22,17 @@ pub struct Place {
     pub mark: u8,
     pub start: usize,
     pub end: usize,
+}
+
+// How a block begins: with the byte `plain`, or with `marked` where its items have marks; the byte at `at` says how many items follow it,
+// `most` or fewer.
+#[derive(Clone, Copy)]
+pub struct Form {
+    pub plain: u8,
+    pub marked: u8,
+    pub at: usize,
+    pub most: u8,
+    pub ghost within: { at < 508 },
 }
 
 // What is wrong with bytes that are no sheet or no card (01: sound, where nothing is).
@@ -43,17 +54,18 @@ pub fn word(block: &[u8], at: usize) -> u32
     u32::from_le_bytes([block[at], block[at + 1], block[at + 2], block[at + 3]])
 }
 
-// Whether a block has its size, and its bytes 508 to 511 its check sum.
-pub fn check(block: &[u8]) -> Result<(), Flaw>
-    ensures { result ≡ check block.now }
+// The block that bytes are which have its size and, in 508 to 511, its check sum.
+pub fn check(bytes: &[u8]) -> Result<&[u8; 512], Flaw>
+    ensures block { IfOk result (λ block. (block.now ≡ bytes.now) × (check bytes.now ≡ Ok tt)) }
+    ensures flaw { IfErr result (λ flaw. check bytes.now ≡ Err flaw) }
 {
-    if block.len() != 512 {
+    let Ok(block) = <&[u8; 512]>::try_from(bytes) else {
         return Err(Flaw::Size);
-    }
+    };
     if check_sum(block) != word(block, 508) {
         return Err(Flaw::Sum);
     }
-    Ok(())
+    Ok(block)
 }
 
 // Whether every byte is zero. The loop goes on to the end, so that it takes many bytes a turn.
@@ -96,9 +108,8 @@ pub fn place_at(block: &[u8], at: usize) -> Place
 
 // Whether `count` items from `from` on end at or before byte 507, and the bytes from there to 507 are zero.
 #[tactic(auto, using(crate::proofs::Items::laid_to_next, crate::proofs::Items::laid_to_end))]
-fn laid_out(block: &[u8], from: usize, count: u8) -> Option<usize>
-    requires has_size { HasSize block.now }
-    requires from_bound { from ≤ 508 }
+fn laid_out(block: &[u8; 512], from: usize, count: u8) -> Option<usize>
+    requires { from ≤ 508 }
     ensures { LaysOut block.now (laid_out count block.now from) result }
 {
     let mut at = from;
@@ -112,50 +123,43 @@ fn laid_out(block: &[u8], from: usize, count: u8) -> Option<usize>
     zeros(&block[at..508]).then_some(at)
 }
 
-// Whether the first byte is `first`, the byte at `at` says how many items follow it, `most` or fewer, and they and the padding
-// are laid out.
-fn layout_from(block: &[u8], first: u8, at: usize, most: u8) -> Option<usize>
-    requires has_size { HasSize block.now }
-    requires at_bound { at < 508 }
-    ensures { LaysOut block.now (has_layout first at most block.now) result }
+// Whether the first byte is `first`, and the items are as many as a form says and they and the padding are laid out.
+fn layout_from(block: &[u8; 512], first: u8, form: Form) -> Option<usize>
+    ensures { LaysOut block.now (has_layout first form.at form.most block.now) result }
 {
     if block[0] != first {
         return None;
     }
-    let count = block[at];
-    if count > most {
+    let count = block[form.at];
+    if count > form.most {
         return None;
     }
-    laid_out(block, at + 1, count)
+    laid_out(block, form.at + 1, count)
 }
 
-// The same with either of two first bytes.
-pub fn layout_of(block: &[u8], plain: u8, marked: u8, at: usize, most: u8) -> Option<usize>
-    requires has_size { HasSize block.now }
-    requires at_bound { at < 508 }
-    ensures { LaysOut block.now (has_either plain marked at most block.now) result }
+// The same with either first byte of a form. It is part of its callers, so that a form is constants there.
+#[inline(always)]
+fn layout_of(block: &[u8; 512], form: Form) -> Option<usize>
+    ensures { LaysOut block.now (has_either form.plain form.marked form.at form.most block.now) result }
 {
-    layout_from(block, plain, at, most).or_else(|| layout_from(block, marked, at, most))
+    layout_from(block, form.plain, form).or_else(|| layout_from(block, form.marked, form))
 }
 
-// Whether a block of 512 bytes has either layout.
-pub fn has_either(block: &[u8], plain: u8, marked: u8, at: usize, most: u8) -> bool
-    requires has_size { HasSize block.now }
-    requires at_bound { at < 508 }
-    ensures { result ≡ has_either plain marked at most block.now }
+// Whether a block has a form.
+pub fn has_either(block: &[u8; 512], form: Form) -> bool
+    ensures { result ≡ has_either form.plain form.marked form.at form.most block.now }
 {
-    layout_of(block, plain, marked, at, most).is_some()
+    layout_of(block, form).is_some()
 }
 
 // What a block is: size, then check sum, then layout. The layout is looked at first, since the sum needs to go no further than the items.
-pub fn read_block(block: &[u8], plain: u8, marked: u8, at: usize, most: u8) -> Result<(), Flaw>
-    requires { at < 508 }
-    ensures { result ≡ reading (check block.now) (has_either plain marked at most block.now) }
+pub fn read_block(block: &[u8], form: Form) -> Result<(), Flaw>
+    ensures { result ≡ reading (check block.now) (has_either form.plain form.marked form.at form.most block.now) }
 {
-    if block.len() != 512 {
+    let Ok(block) = <&[u8; 512]>::try_from(block) else {
         return Err(Flaw::Size);
-    }
-    match layout_of(block, plain, marked, at, most) {
+    };
+    match layout_of(block, form) {
         Some(end) => {
             if check_sum_to(block, end) != word(block, 508) {
                 return Err(Flaw::Sum);

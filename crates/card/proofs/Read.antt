@@ -15,9 +15,9 @@ use Rattle.card.specs.Encode.{card_first}
 use Rattle.card.specs.Card.{entry, entry_count, entries_of, read_card}
 
 module _ (b : List ℕ) (h : read_card b ≡ (Ok tt)) where
-  pub card-length : length b ≡ 512
+  pub card_length : length b ≡ 512
   unfolding read_card
-  card-length = ((reading_iff b (has_either 0x43 0x44 5 64 b)).0 h).0.size
+  card_length = ((reading_iff b (has_either 0x43 0x44 5 64 b)).0 h).0.size
 
   card-either : has_either 0x43 0x44 5 64 b ≡ true
   unfolding read_card

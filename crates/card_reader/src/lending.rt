@@ -23,6 +23,8 @@ pub fn lend(kinds: &[u8; 32]) -> Kept
     }
 }
 
+// That an index is below 32, and in `entries` and `listed` a number below 64, is a clause: a number below the size of an array, opened at one use.
+
 // Has the entries of a parameter kept from the next card on.
 pub fn keep(kept: &mut Kept, index: u8)
     requires index_bound { index < 32 }

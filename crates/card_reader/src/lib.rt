@@ -5,15 +5,18 @@
 mod entries;
 mod lending;
 mod listed;
+mod question;
+mod read;
 mod related;
 mod store;
 
 pub use entries::read_entries;
-use kind::{Meaning, Readings};
 pub use lending::{keep, kind_at, lend};
 pub use listed::{chain_behind, chain_of, next_counting, occurrence_of, some_kept};
 use number::Decimal;
 use period::Period;
+pub use question::Question;
+pub use read::ReadCard;
 
 // What a text on a card reads to: its bytes alone, a number, or a span of time.
 #[derive(Clone, Copy)]
@@ -35,19 +38,11 @@ pub struct KeptEntry {
 }
 
 // What is kept for a run: the kinds of the parameters, and whether the entries of each are kept; and of a card the last entry under each
-// parameter, counted from 1, or 0 for none, and the entries.
+// parameter, counted from 1, or 0 for none, and the entries. Bytes, so that an entry takes no more memory: an Option of a byte takes two.
 #[derive(Clone, Copy)]
 pub struct Kept {
     pub kinds: [u8; 32],
     pub asked: [bool; 32],
     pub last: [u8; 32],
     pub entries: [KeptEntry; 64],
-}
-
-// What a test asks of the texts under a parameter: its index, the test's meaning, and what the test's value reads to.
-#[derive(Clone, Copy)]
-pub struct Question {
-    pub index: u8,
-    pub meaning: Meaning,
-    pub readings: Readings,
 }

@@ -5,38 +5,27 @@ ghost use Rattle.judge.specs.Once.{readings_for};
 ghost use Rattle.judge.specs.Sets.{values_at, chosen_of, counts};
 ghost use Rattle.judge.specs.Verdicts.{some_value, text_counts};
 ghost use Rattle.card_reader.specs.Lists.{no_entry, none_kept, Holds, IsKept, KeepsCard};
-ghost use Rattle.card_reader.specs.Listed.{entry_counts, OnChain, FirstFrom};
+ghost use Rattle.card_reader.specs.Listed.{entry_counts, counted, OnChain, FirstFrom};
 
 use crate::related::reading_counts;
-use crate::{Kept, Question};
-use card::Card;
+use crate::{Kept, Question, ReadCard};
 use judge::Chosen;
 
-// Whether entries of an occurrence count.
+// Whether entries of an occurrence count. judge's is_under asks besides whether an entry stands under a parameter, which a chain has settled.
 fn is_chosen(chosen: Chosen, occurrence: u8) -> bool
     ensures { result ≡ counts chosen occurrence }
 {
-    match chosen {
-        Some(own) => occurrence == own,
-        None => true,
-    }
+    chosen.is_none_or(|own| occurrence == own)
 }
 
 // Whether the entry e counts for a test.
-fn entry_counts(
-    card: &Card<'_>,
-    kept: &Kept,
-    e: usize,
-    chosen: Chosen,
-    question: Question,
-    value: &[u8],
-) -> bool
+fn entry_counts(read: ReadCard<'_>, e: usize, chosen: Chosen, question: Question<'_>) -> bool
     requires e_bound { e < 64 }
-    requires holds { Holds card.now (get_or kept.now.entries e none_kept) (get_or (entries_of card.now) e no_entry) }
-    requires readings_value { question.readings ≡ readings_for question.meaning value.now }
-    ensures { result ≡ entry_counts chosen question.meaning value.now (get_or (entries_of card.now) e no_entry) }
+    requires holds { Holds read.card.now (get_or read.kept.now.entries e none_kept) (get_or (entries_of read.card.now) e no_entry) }
+    ensures { result ≡ entry_counts chosen question.entry.meaning question.entry.value.now (get_or (entries_of read.entry.card.now) e no_entry) }
 {
-    let entry = kept.entries[e];
+    let card = read.card;
+    let entry = read.kept.entries[e];
     if !is_chosen(chosen, entry.occurrence) {
         return false;
     }
@@ -46,51 +35,53 @@ fn entry_counts(
         question.meaning,
         &card.bytes[start..end],
         entry.reading,
-        value,
+        question.value,
         question.readings,
     )
 }
 
-// The first entry of a chain from `from` on that counts, counted from 1, or 0 for none. A chain goes from the last entry to the first.
+// The first entry of a chain from `from` on that counts, if there is one. A chain goes from the last entry to the first.
 pub fn next_counting(
-    card: &Card<'_>,
-    kept: &Kept,
+    read: ReadCard<'_>,
     chosen: Chosen,
-    question: Question,
-    value: &[u8],
-    from: usize,
-) -> usize
-    requires keeps_card { KeepsCard card.now kept.now }
-    requires on_chain { OnChain card.now kept.now question.index from }
-    requires readings_value { question.readings ≡ readings_for question.meaning value.now }
-    ensures { FirstFrom (entry_counts chosen question.meaning value.now) card.now kept.now question.index from result }
+    question: Question<'_>,
+    from: Option<usize>,
+) -> Option<usize>
+    requires { OnChain read.card.now read.kept.now question.index (counted from) }
+    ensures { FirstFrom (entry_counts chosen question.entry.meaning question.entry.value.now) read.entry.card.now read.entry.kept.now question.entry.index (counted from) (counted result) }
 {
     let mut next = from;
-    // no for: a chain goes from an entry to the one before it under its parameter
-    while next > 0 {
-        let e = next - 1;
-        if entry_counts(card, kept, e, chosen, question, value) {
+    // no for: which entry is next is kept with the one before it
+    while let Some(e) = next {
+        if entry_counts(read, e, chosen, question) {
             return next;
         }
-        next = chain_behind(kept, e);
+        next = chain_behind(read.kept, e);
     }
-    0
+    None
 }
 
-// Where the chain of a parameter begins: at its last entry, counted from 1, or 0 for none.
-pub fn chain_of(kept: &Kept, index: u8) -> usize
+// The entry whose number, counted from 1, is kept, or none for 0.
+fn entry_of(kept: u8) -> Option<usize>
+    ensures { counted result ≡ kept }
+{
+    usize::from(kept).checked_sub(1)
+}
+
+// Where the chain of a parameter begins: at its last entry, if it has one. Its index stays a number with a bound, as a row's probe has it.
+pub fn chain_of(kept: &Kept, index: u8) -> Option<usize>
     requires index_bound { index < 32 }
-    ensures { result ≡ get_or kept.now.last index 0 }
+    ensures { counted result ≡ get_or kept.now.last index 0 }
 {
-    usize::from(kept.last[usize::from(index)])
+    entry_of(kept.last[usize::from(index)])
 }
 
-// Where it goes on behind the entry e.
-pub fn chain_behind(kept: &Kept, e: usize) -> usize
+// Where it goes on behind the entry e, if it does.
+pub fn chain_behind(kept: &Kept, e: usize) -> Option<usize>
     requires e_bound { e < 64 }
-    ensures { result ≡ (get_or kept.now.entries e none_kept).behind }
+    ensures { counted result ≡ (get_or kept.now.entries e none_kept).behind }
 {
-    usize::from(kept.entries[e].behind)
+    entry_of(kept.entries[e].behind)
 }
 
 // The occurrence of the entry e.
@@ -102,19 +93,10 @@ pub fn occurrence_of(kept: &Kept, e: usize) -> u8
 }
 
 // Whether some text under a parameter whose entries are kept counts for a test, among the entries that count.
-pub fn some_kept(
-    card: &Card<'_>,
-    kept: &Kept,
-    chosen: Chosen,
-    question: Question,
-    value: &[u8],
-) -> bool
-    requires keeps_card { KeepsCard card.now kept.now }
-    requires index_bound { question.index < 32 }
-    requires is_kept { IsKept kept.now question.index }
-    requires readings_value { question.readings ≡ readings_for question.meaning value.now }
-    ensures { result ≡ some_value (text_counts question.meaning value.now) (values_at question.index (chosen_of chosen (entries_of card.now))) }
+pub fn some_kept(read: ReadCard<'_>, chosen: Chosen, question: Question<'_>) -> bool
+    requires { IsKept read.kept.now question.index }
+    ensures { result ≡ some_value (text_counts question.entry.meaning question.entry.value.now) (values_at question.entry.index (chosen_of chosen (entries_of read.entry.card.now))) }
 {
-    let from = chain_of(kept, question.index);
-    next_counting(card, kept, chosen, question, value, from) > 0
+    let from = chain_of(read.kept, question.index);
+    next_counting(read, chosen, question, from).is_some()
 }

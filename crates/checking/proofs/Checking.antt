@@ -1,20 +1,19 @@
 -- Check, as the code comes to its answer.
 -- Assumes nothing.
-use Rattle.std.specs.Prelude.{Err, Ok, Result, Option, Some, None}
-use Prim.Native.Nat.{ℕ, ◌≤◌, ◌<◌}
+use Rattle.std.specs.Prelude.{Err, Ok, Result, ⊤, Option, Some, None}
+use Prim.Native.Nat.{ℕ}
 use native.Mathlib.Omega.{arith}
 use mathlib.Core.Path.{◌≡◌, refl, sym, ap, ◌∙◌}
 use mathlib.Core.Option.{none, some}
+use mathlib.Core.Bool.{Bool, true, false, cond, ◌&&◌}
+use lib.Dec.{eqb, leb}
 use mathlib.Core.List.{List}
 use lib.ListN.{length}
-use borrow.Author.Tests.{eq-eqb, ne_eqb, lt-ltb}
-use Rattle.base.specs.Runs.{RunEnd}
 use Rattle.sheet.specs.Sheet.{Parameter, parameters_of, read_sheet}
 use Rattle.syntax.specs.Tree.{Tree, tests_of}
-use Rattle.syntax.specs.Scan.{is_space}
+use Rattle.syntax.specs.Scan.{skip_at}
 use Rattle.syntax.specs.Grammar.{deepest, most_tests}
 use Rattle.syntax.specs.Reader.{parsed, filter_at, whole, read}
-use Rattle.syntax.proofs.Whole.{whole_trails, whole_many, whole_few}
 use Rattle.place.specs.Machine.{failure}
 use Rattle.filter.specs.Folds.{summary_of, reading, walked}
 use Rattle.filter.specs.Walks.{top_spot, answer_of}
@@ -23,77 +22,80 @@ use Rattle.filter.specs.declared.Summary.{Summary}
 use Rattle.filter.specs.declared.Walked.{Walked}
 use Rattle.filter.proofs.Walk.{top-bundle, top_read, WasFilter, was_filter, was_none}
 use Rattle.filter.proofs.Reading.{walked_cases, reading_is}
-use Rattle.refusal.specs.declared.Reason.{Reason}
 use Rattle.refusal.specs.declared.Refusal.{Refusal}
-use Rattle.refusal.specs.Answers.{Answer, count, refused, number_of, refusal_answer, counted_answer}
+use Rattle.refusal.specs.Answers.{Answer, count, refusal_answer, counted_answer}
 use Rattle.refusal.specs.Steps.{Step, found, stop, refusal_step, ◌>>=◌, answer}
-use Rattle.answer.specs.Operations.{accept_filter, decision_step, tests_step, sheet_step, accept_sheet, filter_answer, Inputs, accept_inputs, check_answer}
+use Rattle.answer.specs.Operations.{accept_filter, decision_step, tests_step, accept_sheet, filter_answer, Inputs, accept_inputs, check_answer}
 use Rattle.answer.specs.Passing.{summary_answer}
-use Rattle.answer.proofs.Inputs.{text_read}
+use Rattle.answer.specs.Preparing.{accept_size}
+use Rattle.answer.proofs.Inputs.{text_read, size_refused}
 
--- ---- the answer for a text that is a filter
+-- ---- a whole text, with few enough tests
 
-pub outcome_refused : (s : Summary) (r : Refusal) → s.first ≡ Err r → counted_answer (Err r) ≡ summary_answer s
-unfolding summary_answer counted_answer refusal_answer
-outcome_refused s r e = rw e
+cond_and : {A : Type 0} (b d : Bool) (x y : A) → cond b (cond d x y) y ≡ cond (b && d) x y
+cond_and true d x y = refl
+cond_and false d x y = refl
 
-pub outcome_tests : (s : Summary) → s.first ≡ (Ok tt) → counted_answer (Ok s.tests) ≡ summary_answer s
-unfolding summary_answer counted_answer
-outcome_tests s e = rw e
+-- what is found of the end and of the number of tests decides whether the text is read
+module _ (xs : List ℕ) (q n : ℕ) (f : Tree) (c : n ≡ length (tests_of f)) (z : Result ⊤ Refusal)
+    (g : z ≡ cond (eqb (skip_at xs q) (length xs) && leb n most_tests) (Ok tt) (Err (failure deepest most_tests xs))) where
+  whole_by : whole xs (parsed q f) ≡ cond (eqb (skip_at xs q) (length xs) && leb n most_tests) (some f) none
+  whole_by = ap (λ (k : ℕ). cond (eqb (skip_at xs q) (length xs)) (cond (leb k most_tests) (some f) none) none) (sym c) ∙ cond_and (eqb (skip_at xs q) (length xs)) (leb n most_tests) (some f) none
 
--- ---- the answer for a text that is none
+  pub whole_few : z ≡ Ok tt → whole xs (parsed q f) ≡ some f
+  whole_few h = go (eqb (skip_at xs q) (length xs) && leb n most_tests) (sym h ∙ g) whole_by
+    where
+      go : (b : Bool) → Ok (tt {0}) ≡ cond b (Ok (tt {0})) (Err (failure deepest most_tests xs)) → whole xs (parsed q f) ≡ cond b (some f) none → whole xs (parsed q f) ≡ some f
+      go true i w = w
+      go false i w = let y : ◌≡◌ {A = ℕ} 0 1 = cc in absurd (omega arith)
 
-pub failure-answered : (r f : Refusal) → f ≡ r → counted_answer (Err f) ≡ refusal_answer r
-unfolding counted_answer
-failure-answered r f e = rw e
+  module _ (x : Refusal) (h : z ≡ Err x) where
+    pub whole_none : (whole xs (parsed q f) ≡ none) × (x ≡ failure deepest most_tests xs)
+    whole_none = go (eqb (skip_at xs q) (length xs) && leb n most_tests) (sym h ∙ g) whole_by
+      where
+        go : (b : Bool) → Err x ≡ cond b (Ok (tt {0})) (Err (failure deepest most_tests xs)) → whole xs (parsed q f) ≡ cond b (some f) none → (whole xs (parsed q f) ≡ none) × (x ≡ failure deepest most_tests xs)
+        go true i w = let y : ◌≡◌ {A = ℕ} 0 1 = cc in absurd (omega arith)
+        go false i w = (w, cc)
 
 -- ---- the filter's text
 
-module _ (ps : List Parameter) (xs : List ℕ) (c : Result ℕ Refusal) where
-  pub text_empty : length xs ≡ 0 → counted_answer c ≡ refused (number_of Reason.FilterSize) 0 → counted_answer c ≡ filter_answer ps xs
-  unfolding filter_answer accept_filter
-  text_empty h e = e ∙ rw (eq-eqb (length xs) 0 h)
+module _ (ps : List Parameter) (ys : List ℕ) where
+  pub text_refused : (x : Refusal) → accept_size ys ≡ refusal_step x → counted_answer (Err x) ≡ filter_answer ps ys
+  unfolding filter_answer counted_answer refusal_answer
+  text_refused x e = rw (size_refused ys x e)
 
-  pub text_long : 1024 < length xs → counted_answer c ≡ refused (number_of Reason.FilterSize) 0 → counted_answer c ≡ filter_answer ps xs
-  unfolding filter_answer accept_filter
-  text_long h e =
-      let n : length xs ≡ 0 → ⊥ = λ z. omega arith in
-      e ∙ rw (ne_eqb (length xs) 0 n, lt-ltb 1024 (length xs) h)
+  module _ (xs : List ℕ) (i : (xs ≡ ys) × (accept_size ys ≡ found tt)) where
+    text_none : (x : Refusal) → read xs ≡ none → x ≡ failure deepest most_tests ys → counted_answer (Err x) ≡ filter_answer ps ys
+    unfolding filter_answer refusal_answer counted_answer
+    text_none x e h = rw (h, text_read ys i.1 none (ap read (sym i.0) ∙ e))
 
-module _ (ps : List Parameter) (xs : List ℕ) (n : length xs ≡ 0 → ⊥) (l : length xs ≤ 1024) where
-  text_none : (c : Result ℕ Refusal) → read xs ≡ none → counted_answer c ≡ refusal_answer (failure deepest most_tests xs) → counted_answer c ≡ filter_answer ps xs
-  unfolding filter_answer refusal_answer
-  text_none c e h = h ∙ rw (text_read xs n l none e)
+    module _ (spot : Spot) (s : spot ≡ top_spot xs) (w : Option Walked) (e : w ≡ answer_of walked (reading ps spot.bundle) (filter_at spot.levels xs spot.close spot.at)) where
+      pub text_nothing : (x : Refusal) → w ≡ None → x ≡ failure deepest most_tests ys → counted_answer (Err x) ≡ filter_answer ps ys
+      text_nothing x h = text_none x (top_read xs spot s ∙ ap (whole xs) (was_none walked walked_cases (reading ps spot.bundle) xs spot.close spot.levels spot.at w e h))
 
-  module _ (spot : Spot) (s : spot ≡ top_spot xs) (w : Option Walked) (e : w ≡ answer_of walked (reading ps spot.bundle) (filter_at spot.levels xs spot.close spot.at)) where
-    pub text_nothing : (c : Result ℕ Refusal) → w ≡ None → counted_answer c ≡ refusal_answer (failure deepest most_tests xs) → counted_answer c ≡ filter_answer ps xs
-    text_nothing c h = text_none c (top_read xs spot s ∙ ap (whole xs) (was_none walked walked_cases (reading ps spot.bundle) xs spot.close spot.levels spot.at w e h))
+      module _ (r : Walked) (h : w ≡ Some r) (z : Result ⊤ Refusal) (g : z ≡ cond (eqb (skip_at xs r.end) (length xs) && leb r.summary.tests most_tests) (Ok tt) (Err (failure deepest most_tests xs))) where
+        was : WasFilter walked walked_cases (reading ps spot.bundle) xs spot.close spot.levels spot.at r.end r.summary
+        was = was_filter walked walked_cases (reading ps spot.bundle) xs spot.close spot.levels spot.at w r.end r.summary e h
 
-    module _ (r : Walked) (h : w ≡ Some r) (after : ℕ) (t : RunEnd is_space xs r.end after) where
-      was : WasFilter walked walked_cases (reading ps spot.bundle) xs spot.close spot.levels spot.at r.end r.summary
-      was = was_filter walked walked_cases (reading ps spot.bundle) xs spot.close spot.levels spot.at w r.end r.summary e h
+        gathered : r.summary ≡ summary_of ps 0 (tests_of was.tree)
+        gathered = was.value ∙ reading_is ps spot.bundle was.tree ∙ ap (λ (c : ℕ). summary_of ps c (tests_of was.tree)) (top-bundle xs spot s)
 
-      gathered : r.summary ≡ summary_of ps 0 (tests_of was.tree)
-      gathered = was.value ∙ reading_is ps spot.bundle was.tree ∙ ap (λ (c : ℕ). summary_of ps c (tests_of was.tree)) (top-bundle xs spot s)
+        tests_are : r.summary.tests ≡ length (tests_of was.tree)
+        tests_are = ap (λ (x : Summary). x.tests) gathered
 
-      tests_are : r.summary.tests ≡ length (tests_of was.tree)
-      tests_are = ap (λ (x : Summary). x.tests) gathered
+        text_read_whole : read xs ≡ whole xs (parsed r.end was.tree)
+        text_read_whole = top_read xs spot s ∙ ap (whole xs) was.read
 
-      read_whole : read xs ≡ whole xs (parsed r.end was.tree)
-      read_whole = top_read xs spot s ∙ ap (whole xs) was.read
+        pub text_unread : (x : Refusal) → z ≡ Err x → counted_answer (Err x) ≡ filter_answer ps ys
+        text_unread x j =
+            let none_is = whole_none xs r.end r.summary.tests was.tree tests_are z g x j in
+            text_none x (text_read_whole ∙ none_is.0) (none_is.1 ∙ ap (failure deepest most_tests) i.0)
 
-      pub text_trails : (c : Result ℕ Refusal) → (after ≡ length xs → ⊥) → counted_answer c ≡ refusal_answer (failure deepest most_tests xs) → counted_answer c ≡ filter_answer ps xs
-      text_trails c k = text_none c (read_whole ∙ whole_trails xs r.end after t was.tree k)
-
-      module _ (k : after ≡ length xs) where
-        pub text_many : (c : Result ℕ Refusal) → 32 < r.summary.tests → counted_answer c ≡ refusal_answer (failure deepest most_tests xs) → counted_answer c ≡ filter_answer ps xs
-        text_many c m = text_none c (read_whole ∙ whole_many xs r.end after t was.tree k (omega (arith, tests_are)))
-
-        pub text_answered : (c : Result ℕ Refusal) → r.summary.tests ≤ 32 → counted_answer c ≡ summary_answer r.summary → counted_answer c ≡ filter_answer ps xs
+        pub text_answered : z ≡ Ok tt → (c : Result ℕ Refusal) → counted_answer c ≡ summary_answer r.summary → counted_answer c ≡ filter_answer ps ys
         unfolding filter_answer summary_answer tests_step
-        text_answered c m g =
-            let done : read xs ≡ some was.tree = read_whole ∙ whole_few xs r.end after t was.tree k (omega (arith, tests_are)) in
-            g ∙ rw (text_read xs n l (some was.tree) done) (ap (λ (x : Summary). answer (decision_step x.first >>= λ u. found (count x.tests))) gathered)
+        text_answered j c k =
+            let done : read xs ≡ some was.tree = text_read_whole ∙ whole_few xs r.end r.summary.tests was.tree tests_are z g j in
+            k ∙ rw (text_read ys i.1 (some was.tree) (ap read (sym i.0) ∙ done)) (ap (λ (x : Summary). answer (decision_step x.first >>= λ u. found (count x.tests))) gathered)
 
 -- ---- the sheet
 

@@ -7,7 +7,7 @@
 use Rattle.std.specs.Prelude.{Option, Some, None}
 use Prim.Native.Nat.{ℕ, ◌+◌, ◌*◌, ◌-◌, ◌≤◌, ◌<◌}
 use mathlib.Core.Bool.{Bool, true, false}
-use mathlib.Core.Path.{◌≡◌, refl, sym, ap, ◌∙◌, subst}
+use mathlib.Core.Path.{◌≡◌, refl, sym, ap, ◌∙◌}
 use mathlib.Core.List.{List}
 use native.Mathlib.Nat.{le_refl, le_trans, le_of_lt, mul-le-mul, mul-le-mul_right, suc-mul}
 use native.Mathlib.Omega.{arith}
@@ -19,16 +19,14 @@ use mir.Val.{Fits, SFits, to_z, of_z}
 use mir.ValLaws.{to_z-of_z, to_z_pos}
 use borrow.Author.Tests.{eq-eqb, ne_eqb, lt-ltb, le-ltb, le-leb, lt-leb, ltb-true}
 use Rattle.base.specs.Digits.{is_digit}
-use Rattle.base.proofs.Integers.{nat_abs_neg, mag_less}
+use Rattle.base.proofs.Integers.{mag_less}
 use Rattle.base.proofs.Tests.{cond-elim}
 use Rattle.date.specs.Calendar.{leap_year, year_length, month_length, day_number}
-use Rattle.date.specs.Fields.{valid_year, valid_month, valid_day, valid_time, valid_zone, ValidOffset}
+use Rattle.date.specs.Fields.{valid_year, valid_month, valid_day, valid_time, valid_zone}
 use Rattle.date.specs.Spans.{days_from, second_of_day, second_from, year_date, month_date, day_date, second_date}
 use Rattle.date.specs.Marks.{hyphen, colon, plus, letter_t, letter_z}
 use Rattle.date.specs.Texts.{digit_of, pair, two_at, four_at, field_at, signed, zone_at, read_year, read_month, read_day, read_local, zoned, read}
 use Rattle.date.specs.declared.Date.{Date}
-use Rattle.date.proofs.Fields.{zone_says}
-use Rattle.date.proofs.Spans.{offset_back}
 
 -- ---- digits
 
@@ -162,41 +160,6 @@ module _ (s : List ℕ) (at : ℕ) where
     unfolding zone_at
     zone_length k = rw (ne_eqb _ _ h, ne_eqb _ _ k)
 
--- an offset that was read is at most 840 minutes either way
-data Within : Option ℤ → Type 0 where
-  within_offset : {z : ℤ} → ValidOffset z → Within (Some z)
-  within_none : Within None
-
-within_bound : {z : ℤ} → Within (Some z) → ValidOffset z
-within_bound (within_offset p) = p
-
-signed-within : (sign h m : ℕ) → Within (signed sign h m)
-unfolding signed
-signed-within sign h m =
-    cond-elim Within (valid_zone h m)
-    (λ e. let most : h * 60 + m ≤ 840 = (zone_says e).most in
-    let west : ValidOffset (neg_ℤ (pos (h * 60 + m))) = rw (nat_abs_neg (pos (h * 60 + m))) most in
-    cond-elim Within (eqb sign plus) (λ f. within_offset most)
-    (λ f. cond-elim Within (eqb sign hyphen) (λ g. within_offset west) (λ g. within_none)))
-    (λ e. within_none)
-
-zone_within : (s : List ℕ) (at : ℕ) → Within (zone_at s at)
-unfolding zone_at
-zone_within s at =
-    cond-elim Within (eqb (length s) (at + 1))
-    (λ e. cond-elim Within (eqb (get_or s at 0) letter_z) (λ f. within_offset (lit≤ tt)) (λ f. within_none))
-    (λ e. cond-elim Within (eqb (length s) (at + 6)) (λ f. signed-within (get_or s at 0) (two_at s (at + 1)) (field_at s (at + 3) colon)) (λ f. within_none))
-
-module _ (s : List ℕ) (at : ℕ) {r : Option ℤ} {z : ℤ} (e : r ≡ zone_at s at) (f : r ≡ Some z) where
-  zone_small : ValidOffset z
-  zone_small = within_bound (subst Within (sym e ∙ f) (zone_within s at))
-
-  zone_back : to_z w64 (of_z w64 z) ≡ z
-  zone_back = offset_back z zone_small
-
-  pub zone_bound : ValidOffset (to_z w64 (of_z w64 z))
-  zone_bound = rw zone_back zone_small
-
 -- ---- the spellings
 
 module _ (s : List ℕ) {y : ℕ} {p : Bool} (e : y ≡ four_at s 0) (f : p ≡ valid_year y) where
@@ -235,10 +198,9 @@ module _ (s : List ℕ) {y m d : ℕ} {p : Bool} (e : y ≡ four_at s 0) (i : m 
     unfolding read_local
     local_time offset u = rw (← e, ← i, ← j, ← f, t, ← a, ← b, ← c, ← g, u)
 
-    pub local_on : {first from : ℕ} {x : Date} {offset : ℤ} → q ≡ true → first ≡ day_number y m d → from ≡ second_of_day hour minute second → x ≡ second_from first from (to_z w64 (of_z w64 offset)) → SFits w64 offset → Some x ≡ read_local s offset
+    pub local_on : {first from : ℕ} {x : Date} (offset : ℤ) → q ≡ true → first ≡ day_number y m d → from ≡ second_of_day hour minute second → x ≡ second_from first from offset → Some x ≡ read_local s offset
     unfolding read_local second_date
-    local_on {offset = offset} u k l h fits =
-        rw (← e, ← i, ← j, ← f, t, ← a, ← b, ← c, ← g, u, ← k, ← l, ← to_z-of_z w64 offset fits) (ap Some h)
+    local_on offset u k l h = rw (← e, ← i, ← j, ← f, t, ← a, ← b, ← c, ← g, u, ← k, ← l) (ap Some h)
 
 -- ---- a text
 
@@ -267,9 +229,9 @@ module _ (s : List ℕ) where
           unfolding read
           read_long = rw (ne_eqb _ _ not4, ne_eqb _ _ not7, ne_eqb _ _ not10, le-ltb _ _ h, ← e)
 
-          pub read-second : {r : Option Date} {z : ℤ} → zone ≡ Some z → r ≡ read_local s (to_z w64 (of_z w64 z)) → r ≡ read s
+          pub read-second : {r : Option Date} {z : ℤ} → zone ≡ Some z → r ≡ read_local s z → r ≡ read s
           unfolding zoned
-          read-second f g = g ∙ ap (read_local s) (zone_back s 19 e f) ∙ ap (zoned s) (sym f) ∙ read_long
+          read-second f g = g ∙ ap (zoned s) (sym f) ∙ read_long
 
           pub read_no_zone : zone ≡ None → None ≡ read s
           unfolding zoned

@@ -6,7 +6,7 @@ mod days;
 mod reader;
 mod seconds;
 
-pub use reader::{read, readable};
+pub use reader::read;
 
 // A date: the seconds from `start` up to but without `end`, counted from 1970-01-01T00:00:00Z and negative before it.
 #[derive(Clone, Copy)]

@@ -1,9 +1,9 @@
 // Reads the spellings of dates. A number that is not there is read as one that is too large for its field, and the tests
 // of the fields refuse it.
 ghost use Rattle.std.specs.Prelude.{◌≡◌, ◌+◌, ◌≤◌, length};
-ghost use Rattle.date.specs.Fields.{ValidOffset};
-ghost use Rattle.date.specs.Texts.{digit_of, pair, two_at, four_at, field_at, signed, zone_at, read_year, read_month, read_day, read_local, read, readable};
+ghost use Rattle.date.specs.Texts.{digit_of, pair, two_at, four_at, field_at, signed, zone_at, read_year, read_month, read_day, read_local, read};
 
+use crate::seconds::Offset;
 use crate::{Date, days, seconds};
 
 // The number that a digit writes; 10 where the byte is no digit.
@@ -57,7 +57,7 @@ fn field_at(s: &[u8], at: usize, mark: u8) -> u64
 
 // The offset in minutes, negative west of UTC, of "a zone of +hh:mm or -hh:mm, at most 14:00 either way, minutes 00 to
 // 59". Its sign is made here, and nowhere else.
-fn signed(sign: u8, h: u64, m: u64) -> Option<i64>
+fn signed(sign: u8, h: u64, m: u64) -> Option<Offset>
     requires { (h ≤ 100) × (m ≤ 100) }
     ensures { result ≡ signed sign h m }
 {
@@ -68,21 +68,22 @@ fn signed(sign: u8, h: u64, m: u64) -> Option<i64>
     if minutes > 840 {
         return None;
     }
+    let east = minutes as i64;
     match sign {
-        b'+' => Some(minutes as i64),
-        b'-' => Some(-(minutes as i64)),
+        b'+' => Some(Offset { minutes: east }),
+        b'-' => Some(Offset { minutes: -east }),
         _ => None,
     }
 }
 
 // The offset of the zone from a position to the end of the text: "Z or a zone".
-fn zone_at(s: &[u8], at: usize) -> Option<i64>
+fn zone_at(s: &[u8], at: usize) -> Option<Offset>
     requires { at + 1 ≤ length s.now }
     ensures { result ≡ zone_at s.now at }
 {
     if s.len() == at + 1 {
         if s[at] == b'Z' {
-            return Some(0);
+            return Some(Offset { minutes: 0 });
         }
         return None;
     }
@@ -132,9 +133,8 @@ fn read_day(s: &[u8]) -> Option<Date>
 }
 
 // YYYY-MM-DDThh:mm:ss: the second, at a zone offset.
-fn read_local(s: &[u8], offset: i64) -> Option<Date>
-    requires in_bounds { 19 ≤ length s.now }
-    requires valid_offset { ValidOffset offset }
+fn read_local(s: &[u8], offset: Offset) -> Option<Date>
+    requires { 19 ≤ length s.now }
     ensures { result ≡ read_local s.now offset }
 {
     let y = four_at(s, 0);
@@ -173,12 +173,4 @@ pub fn read(s: &[u8]) -> Option<Date>
     }
     let offset = zone_at(s, 19)?;
     read_local(s, offset)
-}
-
-// Whether a text reads to a date.
-#[tactic(auto, unfolding(crate::specs::Texts::readable))]
-pub fn readable(s: &[u8]) -> bool
-    ensures { result ≡ readable s.now }
-{
-    read(s).is_some()
 }

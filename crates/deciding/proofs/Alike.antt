@@ -15,7 +15,8 @@ use Rattle.rows.specs.Good.{Fits, fits_test, fits_bracket, fits_join, fits_not}
 use Rattle.rows.specs.Stated.{tree_of}
 use Rattle.row_judge.proofs.Meaning.{says_is, erase-says}
 use Rattle.deciding.specs.Deciding.{outer_tests, outer_count, without}
-use Rattle.deciding.specs.Marks.{Mark, opposite, joined_marks, mark_by, is_decided, masked, suffices, spare_below, deciding}
+use Rattle.deciding.specs.declared.Mark.{Mark}
+use Rattle.deciding.specs.Marks.{opposite, joined_marks, mark_by, is_decided, masked, suffices, spare_below, deciding}
 use Rattle.deciding.specs.Rows.{outline, outer_verdicts}
 use Rattle.deciding.proofs.Numbered.{map-append}
 

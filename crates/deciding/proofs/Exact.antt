@@ -17,14 +17,15 @@ use Rattle.syntax.specs.Tree.{Tree, test, bracketed, join, negation}
 use Rattle.syntax.specs.declared.Connective.{Connective}
 use Rattle.judge.specs.Verdicts.{joined}
 use Rattle.deciding.specs.Deciding.{outer_count, says_by, Suffices}
-use Rattle.deciding.specs.Marks.{Mark, spared, yes, no, mark, both, opposite, either, joined_marks, mark_by, is_decided, masked, suffices}
+use Rattle.deciding.specs.declared.Mark.{Mark}
+use Rattle.deciding.specs.Marks.{mark, both, opposite, either, joined_marks, mark_by, is_decided, masked, suffices}
 
 -- ---- a yes or no that a mark leaves open
 
 data Fits : Mark → Bool → Type 0 where
-  fits_spared : {b : Bool} → Fits spared b
-  fits_yes : Fits yes true
-  fits_no : Fits no false
+  fits_spared : {b : Bool} → Fits Mark.Spared b
+  fits_yes : Fits Mark.Yes true
+  fits_no : Fits Mark.No false
 
 fits_both : {a b : Mark} {x y : Bool} → Fits a x → Fits b y → Fits (both a b) (x && y)
 fits_both (fits_spared {b = true}) (fits_spared {b = y}) = fits_spared {b = y}
@@ -59,19 +60,19 @@ record Parts (c : Connective) (a b : Mark) (z : Bool) : Type 0 where
   whole : joined c left right ≡ z
 
 both_parts : (a b : Mark) {z : Bool} → Fits (both a b) z → Parts Connective.And a b z
-both_parts spared spared (fits_spared {b = z}) = record { left = true; right = z; fits_left = fits_spared; fits_right = fits_spared; whole = refl }
-both_parts spared yes (fits_spared {b = true}) = record { left = true; right = true; fits_left = fits_spared; fits_right = fits_yes; whole = refl }
-both_parts spared yes (fits_spared {b = false}) = record { left = false; right = true; fits_left = fits_spared; fits_right = fits_yes; whole = refl }
-both_parts spared no fits_no = record { left = false; right = false; fits_left = fits_spared; fits_right = fits_no; whole = refl }
-both_parts yes b {z} h = record { left = true; right = z; fits_left = fits_yes; fits_right = h; whole = refl }
-both_parts no spared fits_no = record { left = false; right = false; fits_left = fits_no; fits_right = fits_spared; whole = refl }
-both_parts no yes fits_no = record { left = false; right = true; fits_left = fits_no; fits_right = fits_yes; whole = refl }
-both_parts no no fits_no = record { left = false; right = false; fits_left = fits_no; fits_right = fits_no; whole = refl }
+both_parts Mark.Spared Mark.Spared (fits_spared {b = z}) = record { left = true; right = z; fits_left = fits_spared; fits_right = fits_spared; whole = refl }
+both_parts Mark.Spared Mark.Yes (fits_spared {b = true}) = record { left = true; right = true; fits_left = fits_spared; fits_right = fits_yes; whole = refl }
+both_parts Mark.Spared Mark.Yes (fits_spared {b = false}) = record { left = false; right = true; fits_left = fits_spared; fits_right = fits_yes; whole = refl }
+both_parts Mark.Spared Mark.No fits_no = record { left = false; right = false; fits_left = fits_spared; fits_right = fits_no; whole = refl }
+both_parts Mark.Yes b {z} h = record { left = true; right = z; fits_left = fits_yes; fits_right = h; whole = refl }
+both_parts Mark.No Mark.Spared fits_no = record { left = false; right = false; fits_left = fits_no; fits_right = fits_spared; whole = refl }
+both_parts Mark.No Mark.Yes fits_no = record { left = false; right = true; fits_left = fits_no; fits_right = fits_yes; whole = refl }
+both_parts Mark.No Mark.No fits_no = record { left = false; right = false; fits_left = fits_no; fits_right = fits_no; whole = refl }
 
 opposite-opposite : (a : Mark) → opposite (opposite a) ≡ a
-opposite-opposite spared = refl
-opposite-opposite yes = refl
-opposite-opposite no = refl
+opposite-opposite Mark.Spared = refl
+opposite-opposite Mark.Yes = refl
+opposite-opposite Mark.No = refl
 
 fits-back : {a : Mark} {x : Bool} → Fits (opposite a) x → Fits a (not x)
 fits-back {a} {x} h = subst (λ (m : Mark). Fits m (not x)) (opposite-opposite a) (fits-opposite h)
@@ -147,8 +148,8 @@ comes (negation f) m i {z} h =
 
 fits_mask : (kept v u : Bool) → (kept ≡ true → u ≡ v) → Fits (mark kept v) u
 fits_mask false v u h = fits_spared
-fits_mask true true u h = subst (Fits yes) (sym (h refl)) fits_yes
-fits_mask true false u h = subst (Fits no) (sym (h refl)) fits_no
+fits_mask true true u h = subst (Fits Mark.Yes) (sym (h refl)) fits_yes
+fits_mask true false u h = subst (Fits Mark.No) (sym (h refl)) fits_no
 
 mask_fits : (kept v u : Bool) → Fits (mark kept v) u → kept ≡ true → u ≡ v
 mask_fits false v u h e = absurd (let z : ◌≡◌ {A = ℕ} 0 1 = cc in omega arith)
@@ -156,9 +157,9 @@ mask_fits true true u fits_yes e = refl
 mask_fits true false u fits_no e = refl
 
 decided_one : (m : Mark) {x y : Bool} → is_decided m ≡ true → Fits m x → Fits m y → x ≡ y
-decided_one yes e fits_yes fits_yes = refl
-decided_one no e fits_no fits_no = refl
-decided_one spared e h k = absurd (let z : ◌≡◌ {A = ℕ} 0 1 = cc in omega arith)
+decided_one Mark.Yes e fits_yes fits_yes = refl
+decided_one Mark.No e fits_no fits_no = refl
+decided_one Mark.Spared e h k = absurd (let z : ◌≡◌ {A = ℕ} 0 1 = cc in omega arith)
 
 module _ (f : Tree) (v kept : ℕ → Bool) where
   pub suffices_stands : suffices f v kept ≡ true → Suffices f v kept
@@ -172,9 +173,9 @@ module _ (f : Tree) (v kept : ℕ → Bool) where
   stands_suffices h = by (mark_by (masked kept v) 0 f) refl
     where
       by : (m : Mark) → mark_by (masked kept v) 0 f ≡ m → is_decided m ≡ true
-      by yes e = refl
-      by no e = refl
-      by spared e =
+      by Mark.Yes e = refl
+      by Mark.No e = refl
+      by Mark.Spared e =
           let b : Bool = says_by v 0 f in
           let c : Comes f (masked kept v) 0 (not b) = comes f (masked kept v) 0 (subst (λ (m : Mark). Fits m (not b)) (sym e) fits_spared) in
           let s = h c.u (λ i l t. mask_fits (kept i) (v i) (c.u i) (c.lies i (omega arith) (omega arith)) t) in

@@ -2,7 +2,6 @@
 pub mod Exact
 pub mod Numbered
 pub mod Deciding
-mod Leaves
 pub mod Outer
 mod Parting
 mod Marking

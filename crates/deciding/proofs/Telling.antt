@@ -9,10 +9,10 @@ use mathlib.Core.Option.{Option, some, none-ne-some, some-injective}
 use mathlib.Core.List.{List, [], ◌∷◌, ◌++◌}
 use lib.Dec.{ltb}
 use lib.ListN.{length, get_or, set, take, drop, length-set, get_or-append}
-use lib.Seq.{get_or-set_same, get_or-set_other, length-take-le}
+use lib.Seq.{get_or-set_same, get_or-set_other}
 use borrow.Author.Tests.{ltb-true, ltb-false}
 use Rattle.base.proofs.Tests.{decided}
-use Rattle.card.specs.Card.{Entry, entries_of}
+use Rattle.card.specs.Card.{Entry}
 use mir.Syntax.{w64}
 use mir.Val.{Fits}
 use Rattle.base.specs.Parts.{part}
@@ -22,12 +22,13 @@ use Rattle.judge.proofs.Entries.{every, chosen-every}
 use Rattle.rows.specs.Expression.{Expression, joining, negating}
 use Rattle.rows.specs.Cells.{row_of, next_row, on_from, stated}
 use Rattle.rows.specs.Stated.{tree_of}
-use Rattle.rows.specs.declared.Probe.{Probe}
 use Rattle.rows.specs.declared.Row.{Row}
 use Rattle.rows.proofs.Stating.{then_some}
 use Rattle.row_judge.specs.Saying.{expression_says, stated_says, rows_say, Whole}
-use Rattle.deciding.specs.Deciding.{outer_count, cell}
-use Rattle.deciding.specs.Rows.{outline, outer_verdicts, Single, single_test, single_bracket, Reading, Starts, Judgeable, Markable, Gathering, Gathers, Tells}
+use Rattle.deciding.specs.Deciding.{outer_count}
+use Rattle.deciding.specs.Marks.{mark}
+use Rattle.deciding.specs.declared.Mark.{Mark}
+use Rattle.deciding.specs.Rows.{outline, outer_verdicts, Single, single_test, single_bracket, Reading, Starts, Room, Markable, Gathering, Gathers, Tells}
 use Rattle.deciding.proofs.Numbered.{get_d_after}
 use Rattle.deciding.proofs.Outer.{outer_tests_lem, verdicts-size}
 use Rattle.deciding.proofs.Marking.{single_count}
@@ -39,11 +40,11 @@ module _ (kinds xs : List ℕ) (es : List Entry) (rows : List ℕ) (says : Bool)
   said : says ≡ rows_say kinds xs es rows
   said = h ∙ ap (λ (l : List Entry). rows_say kinds xs l rows) (chosen-every es)
 
-  pub verdict_yes : says ≡ true → 1 ≡ cell true (rows_say kinds xs es rows)
-  verdict_yes e = ap (cell true) (sym e ∙ said)
+  pub verdict_yes : says ≡ true → Mark.Yes ≡ mark true (rows_say kinds xs es rows)
+  verdict_yes e = ap (mark true) (sym e ∙ said)
 
-  pub verdict_no : says ≡ false → 2 ≡ cell true (rows_say kinds xs es rows)
-  verdict_no e = ap (cell true) (sym e ∙ said)
+  pub verdict_no : says ≡ false → Mark.No ≡ mark true (rows_say kinds xs es rows)
+  verdict_no e = ap (mark true) (sym e ∙ said)
 
 -- ---- from left to right
 
@@ -64,7 +65,7 @@ on_grows inner zero e (x ∷ cs) g h = by_row (row_of x) (λ n f i. on_grows inn
 on_grows inner (suc n) e (x ∷ cs) g h = on_grows inner n e cs g h
 
 -- what is gathered behind the first test stands behind what was there before it
-module _ (kinds xs : List ℕ) (es : List Entry) (rows : List ℕ) (first next v : ℕ) (marks after : List ℕ) (g : Gathers kinds xs es rows first next (set marks first v) after) where
+module _ (kinds xs : List ℕ) (es : List Entry) (rows : List ℕ) (first next : ℕ) (v : Mark) (marks after : List Mark) (g : Gathers kinds xs es rows first next (set marks first v) after) where
   pub gathered_size : length after ≡ length marks
   gathered_size = g.size ∙ length-set marks first v
 
@@ -73,7 +74,7 @@ module _ (kinds xs : List ℕ) (es : List Entry) (rows : List ℕ) (first next v
       record {
         count = g.count;
         verdicts = g.verdicts;
-        below = λ j k. g.below j k ∙ get_or-set_other marks first j v 0 (λ z. omega (arith, k, z));
+        below = λ j k. g.below j k ∙ get_or-set_other marks first j v Mark.Spared (λ z. omega (arith, k, z));
         size = gathered_size;
       }
 
@@ -82,7 +83,10 @@ unfolding outer_verdicts
 single_verdicts kinds xs es single_test = refl
 single_verdicts kinds xs es single_bracket = refl
 
-module _ (rows : List ℕ) (first : ℕ) (marks : List ℕ) (m : Markable rows first marks) where
+pub markable_of : (rows : List ℕ) (first : ℕ) (marks : List Mark) → Whole rows → length rows ≤ 320 → Room rows first 32 → length marks ≡ 32 → Markable rows first marks
+markable_of rows first marks w few room size = record { whole = w; few = few; room = room; size = size }
+
+module _ (rows : List ℕ) (first : ℕ) (marks : List Mark) (m : Markable rows first marks) where
   pub room_here : first < length marks
   room_here = omega (arith, m.room.each m.whole.expression m.whole.states, (outer_tests_lem m.whole.expression).0, m.size)
 
@@ -92,19 +96,19 @@ module _ (rows : List ℕ) (first : ℕ) (marks : List ℕ) (m : Markable rows f
       omega (arith, m.room.each m.whole.expression m.whole.states, on_grows stated 0 e (drop at rows) m.whole.expression (sym s.rest ∙ m.whole.states))
 
   module _ (at : ℕ) (s : Starts rows at) where
-    pub first-whole : Whole (take at rows)
-    first-whole = part-whole m.whole at s.expression s.reading
+    part_first : part rows 0 at ≡ take at rows
+    part_first = let n : at - 0 ≡ at = omega arith in ap (λ (k : ℕ). take k rows) n
 
-    pub first_few : length (take at rows) ≤ 320
-    first_few = omega (arith, length-take-le at rows s.reading.within, s.reading.within, m.few)
+    pub first-whole : Whole (part rows 0 at)
+    first-whole = subst Whole (sym part_first) (part-whole m.whole at s.expression s.reading)
 
-    pub gathering_start : (kinds xs : List ℕ) (es : List Entry) (v : ℕ) → v ≡ cell true (rows_say kinds xs es (take at rows))
+    pub gathering_start : (kinds xs : List ℕ) (es : List Entry) (v : Mark) → v ≡ mark true (rows_say kinds xs es (part rows 0 at))
         → Gathering kinds xs es rows first at (first + 1) (set marks first v) (set marks first v)
     unfolding rows_say
     gathering_start kinds xs es v h =
         let e : Expression = s.expression in
         let one = single_count s.single in
-        let says : rows_say kinds xs es (take at rows) ≡ expression_says kinds xs es e = ap (stated_says kinds xs es) (part_states m.whole at e s.reading) in
+        let says : rows_say kinds xs es (part rows 0 at) ≡ expression_says kinds xs es e = ap (rows_say kinds xs es) part_first ∙ ap (stated_says kinds xs es) (part_states m.whole at e s.reading) in
         record {
           expression = e;
           reading = s.reading;
@@ -112,14 +116,14 @@ module _ (rows : List ℕ) (first : ℕ) (marks : List ℕ) (m : Markable rows f
           verdicts = λ j k.
               let z : j ≡ 0 = omega (arith, k, one) in
               let same : first + j ≡ first = omega (arith, z) in
-              ap (λ (x : ℕ). get_or (set marks first v) x 0) same ∙ get_or-set_same marks first v 0 room_here ∙ h ∙ ap (cell true) says
-              ∙ sym (ap (λ (x : ℕ). cell true (get_or (outer_verdicts kinds xs es e) x false)) z ∙ ap (λ (bs : List Bool). cell true (get_or bs 0 false)) (single_verdicts kinds xs es s.single));
+              ap (λ (x : ℕ). get_or (set marks first v) x Mark.Spared) same ∙ get_or-set_same marks first v Mark.Spared room_here ∙ h ∙ ap (mark true) says
+              ∙ sym (ap (λ (x : ℕ). mark true (get_or (outer_verdicts kinds xs es e) x false)) z ∙ ap (λ (bs : List Bool). mark true (get_or bs 0 false)) (single_verdicts kinds xs es s.single));
           below = λ j k. refl;
           same_size = refl;
           markable = record { whole = m.whole; few = m.few; room = m.room; size = length-set marks first v ∙ m.size };
         }
 
-module _ (kinds xs : List ℕ) (es : List Entry) (rows : List ℕ) (first at next : ℕ) (before between : List ℕ) (g : Gathering kinds xs es rows first at next before between) where
+module _ (kinds xs : List ℕ) (es : List Entry) (rows : List ℕ) (first at next : ℕ) (before between : List Mark) (g : Gathering kinds xs es rows first at next before between) where
   abbrev w : Whole rows
   w = g.markable.whole
 
@@ -133,7 +137,8 @@ module _ (kinds xs : List ℕ) (es : List Entry) (rows : List ℕ) (first at nex
       record {
         count = λ f i. subst (λ (x : Expression). next ≡ first + outer_count (outline x)) (same f i) g.count;
         verdicts = λ f i.
-            subst (λ (x : Expression). (k : ℕ) → k < outer_count (outline x) → get_or between (first + k) 0 ≡ cell true (get_or (outer_verdicts kinds xs es x) k false)) (same f i) g.verdicts;
+            subst (λ (x : Expression). (k : ℕ) → k < outer_count (outline x) → get_or between (first + k) Mark.Spared ≡ mark true (get_or (outer_verdicts kinds xs es x) k false))
+            (same f i) g.verdicts;
         below = g.below;
         size = g.same_size;
       }
@@ -169,8 +174,8 @@ module _ (kinds xs : List ℕ) (es : List Entry) (rows : List ℕ) (first at nex
       pub gathering_fits : Fits w64 (at + 1 + s)
       gathering_fits = omega (arith, gathering_room, g.markable.few)
 
-      pub gathering_falls : (t : ℕ) → 2 * length rows ≡ t → 2 * length second_part + 1 < t
-      gathering_falls t e = omega (arith, gathering_room, second-size w at g.expression g.reading l r i c s j)
+      pub gathering_falls : 2 * length second_part + 1 < 2 * length rows
+      gathering_falls = omega (arith, gathering_room, second-size w at g.expression g.reading l r i c s j)
 
       pub gathering_second : Markable second_part next between
       unfolding tree_of outer_count
@@ -185,7 +190,7 @@ module _ (kinds xs : List ℕ) (es : List Entry) (rows : List ℕ) (first at nex
             size = g.markable.size;
           }
 
-      pub gathering_join : (last : ℕ) (after : List ℕ) → Gathers kinds xs es second_part next last between after → Gathering kinds xs es rows first (at + 1 + s) last before after
+      pub gathering_join : (last : ℕ) (after : List Mark) → Gathers kinds xs es second_part next last between after → Gathering kinds xs es rows first (at + 1 + s) last before after
       unfolding tree_of outer_count outer_verdicts
       gathering_join last after h =
           let f = second in
@@ -200,10 +205,10 @@ module _ (kinds xs : List ℕ) (es : List Entry) (rows : List ℕ) (first at nex
           }
         where
           at_place : (a b : Expression) → next ≡ first + outer_count (outline a) → ((k : ℕ) → k < outer_count (outline a)
-              → get_or between (first + k) 0 ≡ cell true (get_or (outer_verdicts kinds xs es a) k false))
-              → ((k : ℕ) → k < outer_count (outline b) → get_or after (next + k) 0 ≡ cell true (get_or (outer_verdicts kinds xs es b) k false)) → (k : ℕ)
+              → get_or between (first + k) Mark.Spared ≡ mark true (get_or (outer_verdicts kinds xs es a) k false))
+              → ((k : ℕ) → k < outer_count (outline b) → get_or after (next + k) Mark.Spared ≡ mark true (get_or (outer_verdicts kinds xs es b) k false)) → (k : ℕ)
               → k < outer_count (outline a) + outer_count (outline b)
-              → get_or after (first + k) 0 ≡ cell true (get_or (outer_verdicts kinds xs es a ++ outer_verdicts kinds xs es b) k false)
+              → get_or after (first + k) Mark.Spared ≡ mark true (get_or (outer_verdicts kinds xs es a ++ outer_verdicts kinds xs es b) k false)
           at_place a b n p q k z = ⊎_elim (λ y. earlier (ltb-true k (outer_count (outline a)) y)) (λ y. later (ltb-false k (outer_count (outline a)) y)) (decided (ltb k (outer_count (outline a))))
             where
               va : List Bool
@@ -212,31 +217,26 @@ module _ (kinds xs : List ℕ) (es : List Entry) (rows : List ℕ) (first at nex
               vb : List Bool
               vb = outer_verdicts kinds xs es b
 
-              earlier : k < outer_count (outline a) → get_or after (first + k) 0 ≡ cell true (get_or (va ++ vb) k false)
+              earlier : k < outer_count (outline a) → get_or after (first + k) Mark.Spared ≡ mark true (get_or (va ++ vb) k false)
               earlier y =
                   h.below (first + k) (omega (arith, y, n)) ∙ p k y
-                  ∙ ap (cell true) (sym (get_or-append va vb false k (omega (arith, y, verdicts-size kinds xs es a))))
+                  ∙ ap (mark true) (sym (get_or-append va vb false k (omega (arith, y, verdicts-size kinds xs es a))))
 
-              later : outer_count (outline a) ≤ k → get_or after (first + k) 0 ≡ cell true (get_or (va ++ vb) k false)
+              later : outer_count (outline a) ≤ k → get_or after (first + k) Mark.Spared ≡ mark true (get_or (va ++ vb) k false)
               later y =
                   let d : ℕ = k - outer_count (outline a) in
                   let place : first + k ≡ next + d = omega (arith, y, n) in
                   let shift : k ≡ outer_count (outline a) + d = omega (arith, y) in
-                  ap (λ (x : ℕ). get_or after x 0) place ∙ q d (omega (arith, y, z))
-                  ∙ sym (ap (λ (x : ℕ). cell true (get_or (va ++ vb) x false)) shift ∙ ap (cell true) (get_d_after va vb (outer_count (outline a)) d (sym (verdicts-size kinds xs es a))))
+                  ap (λ (x : ℕ). get_or after x Mark.Spared) place ∙ q d (omega (arith, y, z))
+                  ∙ sym (ap (λ (x : ℕ). mark true (get_or (va ++ vb) x false)) shift ∙ ap (mark true) (get_d_after va vb (outer_count (outline a)) d (sym (verdicts-size kinds xs es a))))
 
--- the loop's invariant, with what a call needs of the card
-pub record Going (kinds xs card rows : List ℕ) (first at next : ℕ) (before after : List ℕ) : Type 0 where
-  pub ready : Judgeable kinds xs card
-  pub gathering : Gathering kinds xs (entries_of card) rows first at next before after
-
-pub gathered_all : (kinds xs : List ℕ) (es : List Entry) (rows : List ℕ) (tests : ℕ) (before after : List ℕ) → Gathers kinds xs es rows 0 tests before after → length before ≡ 32
+pub gathered_all : (kinds xs : List ℕ) (es : List Entry) (rows : List ℕ) (tests : ℕ) (before after : List Mark) → Gathers kinds xs es rows 0 tests before after → length before ≡ 32
     → Tells kinds xs es rows tests after
 gathered_all kinds xs es rows tests before after g h =
     record {
       count = λ e i. g.count e i ∙ (omega arith);
       verdicts = λ e i j l.
           let same : j ≡ 0 + j = omega arith in
-          ap (λ (k : ℕ). get_or after k 0) same ∙ g.verdicts e i j (omega (arith, l, g.count e i));
+          ap (λ (k : ℕ). get_or after k Mark.Spared) same ∙ g.verdicts e i j (omega (arith, l, g.count e i));
       size = g.size ∙ h;
     }

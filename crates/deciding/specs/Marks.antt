@@ -1,30 +1,28 @@
 -- The tests that decide, as they are computed: a test that is spared is neither yes nor no, and a filter is judged with three values.
 -- Assumes nothing.
-use Rattle.std.specs.Prelude.{ℕ, zero, suc, ◌+◌, Bool, true, false, cond, List, eqb}
+use Rattle.std.specs.Prelude.{ℕ, zero, suc, ◌+◌, Bool, true, false, cond, List}
 use Rattle.syntax.specs.Tree.{Tree, test, bracketed, join, negation}
 use Rattle.syntax.specs.declared.Connective.{Connective}
+use Rattle.deciding.specs.declared.Mark.{Mark}
 use Rattle.deciding.specs.Deciding.{outer_count, verdicts, without, cells}
 
-pub data Mark : Type 0 where
-  spared yes no : Mark
-
 abbrev pub mark : (kept says : Bool) → Mark
-mark false says = spared
-mark true true = yes
-mark true false = no
+mark false says = Mark.Spared
+mark true true = Mark.Yes
+mark true false = Mark.No
 
 -- a no decides, and else what is spared leaves it open
 abbrev pub both : Mark → Mark → Mark
-both no b = no
-both spared no = no
-both spared spared = spared
-both spared yes = spared
-both yes b = b
+both Mark.No b = Mark.No
+both Mark.Spared Mark.No = Mark.No
+both Mark.Spared Mark.Spared = Mark.Spared
+both Mark.Spared Mark.Yes = Mark.Spared
+both Mark.Yes b = b
 
 abbrev pub opposite : Mark → Mark
-opposite spared = spared
-opposite yes = no
-opposite no = yes
+opposite Mark.Spared = Mark.Spared
+opposite Mark.Yes = Mark.No
+opposite Mark.No = Mark.Yes
 
 abbrev pub either : Mark → Mark → Mark
 either a b = opposite (both (opposite a) (opposite b))
@@ -41,9 +39,9 @@ mark_by m i (join c f g) = joined_marks c (mark_by m i f) (mark_by m (i + outer_
 mark_by m i (negation f) = opposite (mark_by m i f)
 
 abbrev pub is_decided : Mark → Bool
-is_decided spared = false
-is_decided yes = true
-is_decided no = true
+is_decided Mark.Spared = false
+is_decided Mark.Yes = true
+is_decided Mark.No = true
 
 abbrev pub masked : (kept v : ℕ → Bool) → ℕ → Mark
 masked kept v i = mark (kept i) (v i)
@@ -66,6 +64,8 @@ explanation says f = cells (verdicts says f) (deciding f (verdicts says f)) 0 (o
 
 -- ---- as numbers
 
--- what a cell marks: any other number than 1 and 2 is a test that is spared
-unfoldable pub mark_of : ℕ → Mark
-mark_of n = cond (eqb n 1) yes (cond (eqb n 2) no spared)
+-- what the cell of a test holds that has the mark: "0 spared, 1 decides by its yes, 2 decides by its no"
+abbrev pub cell_of : Mark → ℕ
+cell_of Mark.Spared = 0
+cell_of Mark.Yes = 1
+cell_of Mark.No = 2

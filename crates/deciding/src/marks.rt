@@ -1,73 +1,61 @@
-// Marks of tests, 0 spared, 1 yes and 2 no, and the mark that rows come to with them.
-ghost use Rattle.std.specs.Prelude.{◌≡◌, ◌≤◌, length, get_or};
+// The mark that rows come to with the marks of their tests.
+ghost use Rattle.std.specs.Prelude.{◌≡◌, ◌+◌, ◌≤◌, length, get_or};
 ghost use Rattle.row_judge.specs.Saying.{Whole};
-ghost use Rattle.deciding.specs.Marks.{both, opposite, joined_marks, mark_of};
-ghost use Rattle.deciding.specs.Rows.{FewRows, Starts, MarksFrom, MarksWhole};
+ghost use Rattle.deciding.specs.Marks.{both, opposite, joined_marks};
+ghost use Rattle.deciding.specs.Rows.{Starts, MarksFrom, MarksWhole};
+ghost use Rattle.deciding.specs.declared.Mark.{Mark};
 
-use crate::Marked;
+use crate::{Mark, Marked};
+use row_judge::WholeRows;
 use rows::{Row, row_of};
 use syntax::Connective;
 
 // The mark of two parts that are to hold both: a no decides, and else what is spared leaves it open.
-#[tactic(auto, using(crate::proofs::Leaves::both_first))]
-fn both(first: u8, second: u8) -> u8
-    ensures { mark_of result ≡ both (mark_of first) (mark_of second) }
+fn both(first: Mark, second: Mark) -> Mark
+    ensures { result ≡ both first second }
 {
-    if first == 2 {
-        return 2;
+    match (first, second) {
+        (Mark::No, _) | (_, Mark::No) => Mark::No,
+        (Mark::Yes, other) => other,
+        (Mark::Spared, _) => Mark::Spared,
     }
-    if second == 2 {
-        return 2;
-    }
-    if first == 1 {
-        return second;
-    }
-    0
 }
 
 // The mark after not.
-fn opposite(mark: u8) -> u8
-    ensures { mark_of result ≡ opposite (mark_of mark) }
+fn opposite(mark: Mark) -> Mark
+    ensures { result ≡ opposite mark }
 {
-    if mark == 1 {
-        return 2;
+    match mark {
+        Mark::Spared => Mark::Spared,
+        Mark::Yes => Mark::No,
+        Mark::No => Mark::Yes,
     }
-    if mark == 2 {
-        return 1;
-    }
-    0
 }
 
 // The mark of two parts that are joined by and or or.
-fn join_marks(connective: Connective, first: u8, second: u8) -> u8
-    ensures { mark_of result ≡ joined_marks connective (mark_of first) (mark_of second) }
+fn join_marks(connective: Connective, first: Mark, second: Mark) -> Mark
+    ensures { result ≡ joined_marks connective first second }
 {
     match connective {
         Connective::And => both(first, second),
-        Connective::Or => {
-            let neither = both(opposite(first), opposite(second));
-            opposite(neither)
-        }
+        Connective::Or => opposite(both(opposite(first), opposite(second))),
     }
 }
 
 // The mark of a test by its number; where there is none it is spared.
-fn mark_at(marks: &[u8], i: usize) -> u8
-    ensures { result ≡ get_or marks.now i 0 }
+fn mark_at(marks: &[Mark], i: usize) -> Mark
+    ensures { result ≡ get_or marks.now i Mark.Spared }
 {
-    if i < marks.len() {
-        return marks[i];
-    }
-    0
+    marks.get(i).copied().unwrap_or(Mark::Spared)
 }
 
 // The row behind the first test of rows, or behind its brackets.
-pub fn after_first(rows: &[u32]) -> usize
-    requires whole { Whole rows.now }
-    requires rows_len_bound { length rows.now ≤ 320 }
-    ensures { Starts rows.now result }
+pub fn after_first(rows: &WholeRows<'_>) -> usize
+    ensures starts { Starts rows.now result }
+    ensures whole { Whole rows.now }
+    ensures few { length rows.now ≤ 320 }
 {
-    match row_of(rows[0]) {
+    match row_of(rows.cells[0]) {
         Row::Bracket(size) => size + 2,
         _ => 1,
     }
@@ -75,24 +63,25 @@ pub fn after_first(rows: &[u32]) -> usize
 
 // The mark of what rows state, with these marks of its tests, of which the first has the number `first`. A test after brackets has one mark
 // with them.
-fn mark_from(rows: &[u32], marks: &[u8], first: usize) -> Marked
-    requires { FewRows rows.now first }
+fn mark_from(rows: &WholeRows<'_>, marks: &[Mark], first: usize) -> Marked
+    requires { first + length rows.now ≤ 320 }
     ensures { MarksFrom rows.now marks.now first result }
 {
+    let size = rows.len();
     let mut at = after_first(rows);
     let mut mark = mark_at(marks, first);
     let mut next = first + 1;
     // no for: the rows of a second part are passed over at once
-    while at < rows.len() {
-        match row_of(rows[at]) {
+    while at < size {
+        match rows.row(at) {
             Row::Not => {
                 mark = opposite(mark);
                 at += 1;
             }
-            Row::Connect(connective, size) => {
+            Row::Connect(connective, count) => {
                 let start = at + 1;
-                let end = start + size;
-                let second = mark_from(&rows[start..end], marks, next);
+                let end = start + count;
+                let second = mark_from(&rows.part(start, end), marks, next);
                 mark = join_marks(connective, mark, second.mark);
                 next = second.next;
                 at = end;
@@ -104,11 +93,11 @@ fn mark_from(rows: &[u32], marks: &[u8], first: usize) -> Marked
 }
 
 // The mark of what rows state, with these marks of its tests.
-pub fn mark_of(rows: &[u32], marks: &[u8]) -> u8
-    requires whole { Whole rows.now }
-    requires rows_len_bound { length rows.now ≤ 320 }
+pub fn mark_of(rows: &WholeRows<'_>, marks: &[Mark]) -> Mark
     ensures { MarksWhole rows.now marks.now result }
 {
+    // they are few, by their type
+    let _ = &rows.cells;
     let whole = mark_from(rows, marks, 0);
     whole.mark
 }

@@ -15,11 +15,9 @@ use mathlib.Core.Logic.{inl, inr}
 use mathlib.Core.Option.{some, some-injective}
 use mathlib.Core.List.{List, ◌++◌}
 use lib.ListN.{length, get_or, take, drop, replicate, length-append, length-replicate}
-use lib.Seq.{length-take-le}
 use borrow.Author.Tests.{le-leb, lt-leb}
 use Rattle.base.specs.Bytes.{Bytes}
 use Rattle.base.specs.Parts.{part}
-use Rattle.base.specs.Writing.{Room, Puts}
 use Rattle.base.proofs.All.{bytes_of}
 use Rattle.sheet.specs.Sheet.{Parameter, parameters_of}
 use Rattle.sheet.specs.Find.{kinds_of, parents_of}
@@ -54,13 +52,15 @@ use Rattle.answer.proofs.Inputs.{question_by, match_by_lem}
 use Rattle.answer.proofs.Outcomes.{card_of}
 use Rattle.answer.proofs.Passing.{card-found}
 use Rattle.answer.proofs.RowsAnswered.{known_of, prepares_good, match_is}
-use Rattle.deciding.specs.Deciding.{outer_count, verdicts, cell, cells}
-use Rattle.deciding.specs.Marks.{explanation}
+use Rattle.deciding.specs.declared.Mark.{Mark}
+use Rattle.deciding.specs.Deciding.{outer_count, verdicts, cells}
+use Rattle.deciding.specs.Marks.{mark, masked, cell_of, deciding, explanation}
 use Rattle.explain.specs.Operation.{Explanation, explanation_of, accept_marks, explaining, explain_answer, explain_cells}
 use Rattle.deciding.specs.Rows.{outline, outer_verdicts, Room as TestRoom, Tells, Spares}
 use Rattle.explain.specs.Operations.{Marks, Judged}
 use Rattle.deciding.proofs.Alike.{filter_verdicts, filter_alike, deciding-alike}
 use Rattle.deciding.proofs.Outer.{outer_tests_lem}
+use Rattle.explain.proofs.Filling.{Filling, cell-mark, cells_are, filled_list}
 
 -- ---- by what was found
 
@@ -153,9 +153,12 @@ module _ (sheet text rows card : List ℕ) (says : Bool) (j : Judged sheet text 
   abbrev v : ℕ → Bool
   v = verdicts (filter_says ps 0 (entries_of card)) f
 
-  module _ (kinds : List ℕ) (k : kinds ≡ kinds_of ps) (tests : ℕ) (marks : List ℕ) (t : Tells kinds text (entries_of card) rows tests marks) where
+  module _ (kinds : List ℕ) (k : kinds ≡ kinds_of ps) (tests : ℕ) (marks : List Mark) (t : Tells kinds text (entries_of card) rows tests marks) where
     pub mark_few : tests ≤ 32
     mark_few = omega (arith, t.count j.good.expression states_it, few_tests j.good.expression states_it)
+
+    pub mark_marked : (i : ℕ) → i < tests → i < 32
+    mark_marked i l = omega (arith, mark_few)
 
     outline_count : tests ≡ outer_count (outline j.good.expression)
     outline_count = t.count j.good.expression states_it
@@ -163,10 +166,10 @@ module _ (sheet text rows card : List ℕ) (says : Bool) (j : Judged sheet text 
     counted : tests ≡ outer_count f
     counted = outline_count ∙ (filter_alike ps formed text j.good.expression j.good.fits f j.states).count
 
-    told : (i : ℕ) → i < tests → get_or marks i 0 ≡ cell true (v i)
+    told : (i : ℕ) → i < tests → get_or marks i Mark.Spared ≡ mark true (v i)
     told i l =
         t.verdicts j.good.expression states_it i l
-        ∙ ap (λ (bs : List Bool). cell true (get_or bs i false))
+        ∙ ap (λ (bs : List Bool). mark true (get_or bs i false))
         (ap (λ (q : List ℕ). outer_verdicts q text (entries_of card) j.good.expression) k ∙ filter_verdicts ps formed text j.good.expression j.good.fits f j.states (entries_of card))
 
     found_by : (room : ℕ) → explaining sheet text card room ≡ accept_marks room (outer_count f) (explanation_of (record { parameters = ps; filter = f }) (card_of card))
@@ -178,26 +181,19 @@ module _ (sheet text rows card : List ℕ) (says : Bool) (j : Judged sheet text 
         let s : explaining sheet text card (length list) ≡ stop 33 tests = found_by (length list) ∙ rw (← counted, lt-leb tests (length list) l) in
         record { answers = sym (answer_by sheet text card list (stop 33 tests) s); cells = sym (cells_by_lem sheet text card list (stop 33 tests) s) }
 
-    module _ (spared : List ℕ) (s : Spares rows tests marks spared) where
-      pub mark_long : length spared ≡ 32
-      mark_long = s.size ∙ t.size
+    module _ (spared : List Mark) (s : Spares rows tests marks spared) where
+      spared_marks : (i : ℕ) → i < tests → get_or spared i Mark.Spared ≡ masked (deciding f v) v i
+      spared_marks i l =
+          s.decides j.good.expression v states_it outline_count told i l
+          ∙ ap (λ (q : ℕ → Bool). masked q v i) (deciding-alike (outline j.good.expression) f v (filter_alike ps formed text j.good.expression j.good.fits f j.states))
 
-      pub mark-part : tests ≤ length spared
-      mark-part = omega (arith, mark_few, mark_long)
+      module _ (list exit : List ℕ) (l : tests ≤ length list) (w : Filling spared list exit tests) where
+        cells_written : take tests exit ≡ explanation (filter_says ps 0 (entries_of card)) f
+        unfolding explanation
+        cells_written =
+            cells_are v (deciding f v) exit tests 0 (omega (arith, l, w.size)) (λ i a b. w.written i (omega arith) ∙ ap cell_of (spared_marks i (omega arith)) ∙ cell-mark (deciding f v i) (v i))
+            ∙ ap (λ (n : ℕ). cells v (deciding f v) 0 n) counted
 
-      pub mark_room : (list : List ℕ) → tests ≤ length list → Room (part spared 0 tests) list
-      mark_room list l =
-          let all : tests - 0 ≡ tests = omega arith in
-          record { fits = omega (arith, l, ap (λ (n : ℕ). length (take n spared)) all, length-take-le tests spared mark-part) }
-
-      marks_are : part spared 0 tests ≡ explanation (filter_says ps 0 (entries_of card)) f
-      unfolding explanation
-      marks_are =
-          let all : tests - 0 ≡ tests = omega arith in
-          ap (λ (n : ℕ). take n spared) all ∙ s.decides j.good.expression v states_it outline_count told
-          ∙ ap₂ (λ (q : ℕ → Bool) (n : ℕ). cells v q 0 n) (deciding-alike (outline j.good.expression) f v (filter_alike ps formed text j.good.expression j.good.fits f j.states)) counted
-
-      module _ (list exit : List ℕ) {n : ℕ} (l : tests ≤ length list) (w : Puts (part spared 0 tests) list exit n) where
         done : explaining sheet text card (length list) ≡ found (explanation_of (record { parameters = ps; filter = f }) (card_of card))
         unfolding accept_marks
         done = found_by (length list) ∙ rw (← counted, le-leb tests (length list) l)
@@ -206,12 +202,13 @@ module _ (sheet text rows card : List ℕ) (says : Bool) (j : Judged sheet text 
         marked r h =
             record {
               answers = h ∙ ap yes_or_no j.verdict ∙ sym (answer_by sheet text card list (found (explanation_of (record { parameters = ps; filter = f }) (card_of card))) done);
-              cells = w.bytes ∙ ap (λ (k : ℕ). part spared 0 tests ++ drop k list) w.long ∙ ap (λ (x : List ℕ). x ++ drop (length x) list) marks_are ∙ sym (cells_by_lem sheet text card list (found (explanation_of (record { parameters = ps; filter = f }) (card_of card))) done);
+              cells = filled_list spared list exit tests w l ∙ ap (λ (x : List ℕ). x ++ drop (length x) list) cells_written
+                  ∙ sym (cells_by_lem sheet text card list (found (explanation_of (record { parameters = ps; filter = f }) (card_of card))) done);
             }
 
-        pub mark_says : Marks sheet text card list (Ok says) exit
-        unfolding matched_answer
-        mark_says = marked (Ok says) refl
+      pub mark_says : (list exit : List ℕ) (i : ℕ) → Filling spared list exit i → tests ≤ i → i ≤ tests → tests ≤ length list → Marks sheet text card list (Ok says) exit
+      unfolding matched_answer
+      mark_says list exit i w a b l = let same : i ≡ tests = omega (arith, a, b) in marked list exit l (subst (λ (n : ℕ). Filling spared list exit n) same w) (Ok says) refl
 
 -- ---- what was accepted, where match answers yes or no
 

@@ -1,4 +1,5 @@
 -- Laws of explain, its table of refusals, and the promises.
+mod Filling
 pub mod Explaining
 pub mod Table
 pub mod Contracts

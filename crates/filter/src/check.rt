@@ -1,10 +1,7 @@
 // Reading a filter: its tests are counted, and the first refusal among them is kept.
 ghost use Rattle.std.specs.Prelude.{◌≡◌, Bool, ◌+◌, ◌≤◌, ◌<◌, length};
 ghost use Rattle.sheet.specs.Sheet.{parameters_of};
-ghost use Rattle.syntax.specs.Placed.{Placed};
-ghost use Rattle.syntax.specs.Scan.{test_of};
 ghost use Rattle.syntax.specs.Tree.{moved};
-ghost use Rattle.syntax.specs.Grammar.{round};
 ghost use Rattle.syntax.specs.Reader.{item_at, filter_at, bracket_at, chosen_at};
 ghost use Rattle.filter.specs.Folds.{walked, join_summaries, reading};
 ghost use Rattle.filter.specs.Walks.{answer_of};
@@ -12,24 +9,22 @@ ghost use Rattle.filter.specs.Walks.{answer_of};
 use crate::{Spot, Summary, Walked};
 use judge::test_fault;
 use sheet::Sheet;
-use syntax::scan::skip;
-use syntax::{Head, RawTest, read_close, read_connective, read_head, read_member};
+use syntax::{FilterTest, FilterText, Head};
+
+// Sheet and text are handed on beside a spot: with two, a struct is no shorter than its parts.
 
 // One test, with its first byte at a position, where it may be refused.
 pub fn test_summary(
     sheet: &Sheet<'_>,
     bundle: u8,
-    filter: &[u8],
+    test: &FilterTest<'_>,
     position: usize,
-    test: RawTest,
 ) -> Summary
-    requires filter_len_bound { length filter.now ≤ 1024 }
-    requires placed { Placed filter.now test }
-    ensures { result ≡ (reading (parameters_of sheet.now) bundle).one (moved position (test_of filter.now test)) }
+    ensures { result ≡ (reading (parameters_of sheet.now) bundle).one (moved position test.now) }
 {
     Summary {
         tests: 1,
-        first: test_fault(sheet, bundle, filter, position, test),
+        first: test_fault(sheet, bundle, test, position),
     }
 }
 
@@ -46,15 +41,17 @@ pub fn join_summaries(a: Summary, b: Summary) -> Summary
 
 // The filter in round brackets at a spot inside them, after not or without.
 #[cycle(checking)]
-fn check_round(sheet: &Sheet<'_>, filter: &[u8], spot: Spot) -> Option<Walked>
-    requires filter_len_bound { length filter.now ≤ 1024 }
-    requires at_in_bounds { spot.at ≤ length filter.now }
-    requires close_value { spot.close ≡ round }
+fn check_round(sheet: &Sheet<'_>, filter: &FilterText<'_>, spot: Spot) -> Option<Walked>
+    requires { spot.at ≤ length filter.now }
     ensures { (negated : Bool) → result ≡ answer_of walked (reading (parameters_of sheet.now) spot.bundle) (bracket_at spot.levels filter.now negated spot.at) }
 {
-    let inner = check_filter(sheet, filter, spot)?;
+    let inside = Spot {
+        close: b')',
+        ..spot
+    };
+    let inner = check_filter(sheet, filter, inside)?;
     Some(Walked {
-        end: read_close(filter, b')', inner.end)?,
+        end: filter.read_close(b')', inner.end)?,
         summary: inner.summary,
     })
 }
@@ -62,30 +59,32 @@ fn check_round(sheet: &Sheet<'_>, filter: &[u8], spot: Spot) -> Option<Walked>
 // The test of a member at a spot, after the filter in square brackets of the bundle whose name ends at `until`; the levels are those in
 // the brackets.
 #[cycle(checking)]
-fn check_chosen(sheet: &Sheet<'_>, filter: &[u8], spot: Spot, until: usize) -> Option<Walked>
-    requires filter_len_bound { length filter.now ≤ 1024 }
+fn check_chosen(
+    sheet: &Sheet<'_>,
+    filter: &FilterText<'_>,
+    spot: Spot,
+    until: usize,
+) -> Option<Walked>
     requires at_le_until { spot.at ≤ until }
     requires until_in_bounds { until < length filter.now }
     ensures { result ≡ answer_of walked (reading (parameters_of sheet.now) spot.bundle) (chosen_at spot.levels filter.now spot.close spot.at until) }
 {
-    let at = spot.at;
-    let levels = spot.levels;
-    let inside = sheet.enter(spot.bundle, &filter[at..until]);
-    let next = skip(filter, until + 1);
-    let inner = check_filter(
-        sheet,
-        filter,
-        Spot {
-            at: next,
-            levels,
-            close: b']',
-            bundle: inside,
-        },
-    )?;
-    let test = read_member(filter, spot.close, inner.end)?;
-    let outer = test_summary(sheet, inside, filter, at, test);
+    let bundle = sheet.enter(spot.bundle, filter.part(spot.at, until));
+    let inside = Spot {
+        at: filter.skip_after(until),
+        levels: spot.levels,
+        close: b']',
+        bundle,
+    };
+    let inner = check_filter(sheet, filter, inside)?;
+    let raw = filter.read_member(spot.close, inner.end)?;
+    let test = FilterTest {
+        text: &*filter,
+        raw,
+    };
+    let outer = test_summary(sheet, bundle, &test, spot.at);
     Some(Walked {
-        end: test.value.next,
+        end: raw.value.next,
         summary: join_summaries(outer, inner.summary),
     })
 }
@@ -93,21 +92,23 @@ fn check_chosen(sheet: &Sheet<'_>, filter: &[u8], spot: Spot, until: usize) -> O
 // The item at a spot: "a test, a filter in round brackets, or not followed by a filter in round brackets", or the test of a member
 // after its bundle's brackets.
 #[cycle(checking)]
-fn check_item(sheet: &Sheet<'_>, filter: &[u8], spot: Spot) -> Option<Walked>
-    requires filter_len_bound { length filter.now ≤ 1024 }
-    requires at_in_bounds { spot.at ≤ length filter.now }
+fn check_item(sheet: &Sheet<'_>, filter: &FilterText<'_>, spot: Spot) -> Option<Walked>
+    requires { spot.at ≤ length filter.now }
     ensures { result ≡ answer_of walked (reading (parameters_of sheet.now) spot.bundle) (item_at spot.levels filter.now spot.close spot.at) }
 {
-    let at = spot.at;
     let levels = spot.levels;
-    let close = spot.close;
-    let bundle = spot.bundle;
-    let head = read_head(filter, close, at)?;
+    let head = filter.read_head(spot.close, spot.at)?;
     match head {
-        Head::Test(test) => Some(Walked {
-            end: test.value.next,
-            summary: test_summary(sheet, bundle, filter, test.at, test),
-        }),
+        Head::Test(raw) => {
+            let test = FilterTest {
+                text: &*filter,
+                raw,
+            };
+            Some(Walked {
+                end: raw.value.next,
+                summary: test_summary(sheet, spot.bundle, &test, raw.at),
+            })
+        }
         Head::Open(next, _) => {
             if levels == 0 {
                 return None;
@@ -115,8 +116,7 @@ fn check_item(sheet: &Sheet<'_>, filter: &[u8], spot: Spot) -> Option<Walked>
             let inside = Spot {
                 at: next,
                 levels: levels - 1,
-                close: b')',
-                bundle,
+                ..spot
             };
             check_round(sheet, filter, inside)
         }
@@ -125,10 +125,8 @@ fn check_item(sheet: &Sheet<'_>, filter: &[u8], spot: Spot) -> Option<Walked>
                 return None;
             }
             let member = Spot {
-                at,
                 levels: levels - 1,
-                close,
-                bundle,
+                ..spot
             };
             check_chosen(sheet, filter, member, until)
         }
@@ -137,14 +135,13 @@ fn check_item(sheet: &Sheet<'_>, filter: &[u8], spot: Spot) -> Option<Walked>
 
 // The filter at a spot: "one or more items joined by and or or", from left to right.
 #[cycle(checking)]
-pub fn check_filter(sheet: &Sheet<'_>, filter: &[u8], spot: Spot) -> Option<Walked>
-    requires filter_len_bound { length filter.now ≤ 1024 }
-    requires at_in_bounds { spot.at ≤ length filter.now }
+pub fn check_filter(sheet: &Sheet<'_>, filter: &FilterText<'_>, spot: Spot) -> Option<Walked>
+    requires { spot.at ≤ length filter.now }
     ensures { result ≡ answer_of walked (reading (parameters_of sheet.now) spot.bundle) (filter_at spot.levels filter.now spot.close spot.at) }
 {
     let mut read = check_item(sheet, filter, spot)?;
     // no for: where the next item begins is known when the one before it was read
-    while let Some(link) = read_connective(filter, read.end) {
+    while let Some(link) = filter.read_connective(read.end) {
         let next = Spot {
             at: link.next,
             ..spot

@@ -12,6 +12,8 @@ use syntax::scan::skip;
 
 // A position in the filter's text, how many brackets may still open around it, the byte that closes the one around it, and where
 // names are looked up: 0 at the top of the sheet, or a bundle's index plus 1.
+// That a position is within the text is a clause of each walk: it comes out of a bracket or a connective that was read, in which no text
+// is held, so that a spot with the text would have to be made, and its fact proved, at each call.
 #[derive(Clone, Copy)]
 pub struct Spot {
     pub at: usize,
@@ -19,6 +21,9 @@ pub struct Spot {
     pub close: u8,
     pub bundle: u8,
 }
+
+// A spot one level further in is made where a bracket opens, in each walk: a method that answers it, or nothing at the last level, would have to
+// state in clauses each field that a literal shows.
 
 // What reading gathers: the number of tests, and the first refusal among them.
 #[derive(Clone, Copy)]

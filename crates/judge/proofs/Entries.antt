@@ -1,6 +1,9 @@
 -- Loops over a card's entries: what an entry at hand decides, and what is left to the entries to come.
 -- Assumes nothing.
-use Rattle.std.specs.Prelude.{None}
+use Rattle.std.specs.Prelude.{Option, None, Some, MatchOption}
+use denote.Bor.{Bor}
+use native.Mathlib.Omega.{arith}
+use Rattle.std.specs.Slice.{IsItemAt}
 use Prim.Native.Nat.{ℕ, ◌≤◌}
 use mathlib.Core.Path.{◌≡◌, refl, sym, ap, ◌∙◌}
 use mathlib.Core.Bool.{Bool, true, false, ◌&&◌, ◌||◌}
@@ -24,6 +27,11 @@ none_readable t = refl
 
 pub past_readable : (kinds : List ℕ) (i : ℕ) (t : List ℕ) → length kinds ≤ i → false ≡ card_readable (get_or kinds i 0) t
 past_readable kinds i t h = rw (get_or-eq_default kinds 0 {n = i} h) (none_readable t)
+
+-- what is said of a table's byte at an index, which it may not have
+pub conforms_at : (kinds : List ℕ) (i : ℕ) (t : List ℕ) (g : Option (Bor ℕ)) (r : Bool) (Q : Bor ℕ → Type 0) → IsItemAt kinds i g → MatchOption g (r ≡ false) Q → ((x : Bor ℕ) → Q x → r ≡ card_readable x.now t) → r ≡ card_readable (get_or kinds i 0) t
+conforms_at kinds i t (Some x) r Q h e q = q x e ∙ ap (λ (k : ℕ). card_readable k t) (grind arith)
+conforms_at kinds i t None r Q h e q = e ∙ past_readable kinds i t (grind arith)
 
 pub conforms_all : (kinds : List ℕ) (es : List Entry) → list_all (λ (e : Entry). card_readable (get_or kinds e.index 0) e.text) es ≡ conforms_to kinds es
 unfolding conforms_to

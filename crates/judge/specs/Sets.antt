@@ -1,6 +1,6 @@
 -- Paths on a sheet, the texts of a card under them, and which cards conform to a sheet.
 -- Assumes nothing.
-use Rattle.std.specs.Prelude.{ℕ, Bool, true, cond, ◌&&◌, ◌||◌, List, [], ◌∷◌, eqb, get_or, Option, Some, None}
+use Rattle.std.specs.Prelude.{ℕ, Bool, true, cond, ◌&&◌, List, [], ◌∷◌, eqb, get_or, Option, Some, None}
 use Rattle.sheet.specs.Sheet.{Parameter, kind_at}
 use Rattle.sheet.specs.Find.{find, enter}
 use Rattle.sheet.specs.declared.Found.{Found}

@@ -28,25 +28,22 @@ fn lacks_support(operator: Operator) -> bool
 fn unsupported(operator: u8) -> bool
     ensures { result ≡ unsupported operator }
 {
-    match Operator::of(operator) {
-        Some(operator) => lacks_support(operator),
-        None => false,
-    }
+    Operator::of(operator).is_some_and(|operator| lacks_support(operator))
 }
 
 // Whether an operator has a meaning for a kind.
+#[tactic(auto, unfolding(kind::specs::Table::has_meaning))]
 pub fn has_meaning(operator: u8, kind: u8) -> bool
     ensures { result ≡ has_meaning operator kind }
 {
-    match kind::meaning_of(operator, kind) {
-        Meaning::Present => true,
-        Meaning::Relates(_) => true,
-        Meaning::Differs(_) => true,
-        Meaning::Nothing => false,
-    }
+    matches!(
+        kind::meaning_of(operator, kind),
+        Meaning::Present | Meaning::Relates(_) | Meaning::Differs(_)
+    )
 }
 
 // What is decided of an operator and a value for a kind, at the place of their test: the lowest number.
+#[tactic(auto, unfolding(crate::specs::Faults::kind_fault))]
 pub fn kind_fault(operator: u8, kind: u8, value: &[u8], place: usize) -> Result<(), Refusal>
     ensures { result ≡ kind_fault operator kind value.now place }
 {
@@ -81,8 +78,8 @@ pub fn fault_at(
 ) -> Result<(), Refusal>
     ensures { result ≡ fault_at found operator value.now place }
 {
-    match found {
-        Some(found) => parameter_fault(operator, found.kind, value, place),
-        None => refuse(Reason::UnknownName, place),
-    }
+    found.map_or(
+        refuse(Reason::UnknownName, place),
+        |found| parameter_fault(operator, found.kind, value, place),
+    )
 }

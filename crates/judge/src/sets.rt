@@ -14,11 +14,9 @@ use kind::Meaning;
 fn entry_conforms(kinds: &[u8], index: u8, text: &[u8]) -> bool
     ensures { result ≡ card_readable (get_or kinds.now index 0) text.now }
 {
-    let i = index as usize;
-    if i < kinds.len() {
-        return kind::card_readable(kinds[i], text);
-    }
-    false
+    kinds
+        .get(usize::from(index))
+        .is_some_and(|kind| kind::card_readable(*kind, text))
 }
 
 // Whether a well-formed card conforms to a sheet with these kinds (01: fits).
@@ -32,10 +30,7 @@ pub fn conforms(kinds: &[u8], card: &Card<'_>) -> bool
 pub fn is_under(chosen: Chosen, occurrence: u8, same: bool) -> bool
     ensures { result ≡ (counts chosen occurrence && same) }
 {
-    match chosen {
-        Some(own) => occurrence == own && same,
-        None => same,
-    }
+    same && chosen.is_none_or(|own| occurrence == own)
 }
 
 // Whether some text under a parameter counts for a meaning and a value, among the entries that count.

@@ -7,6 +7,7 @@ ghost use Rattle.judge.specs.Verdicts.{text_counts};
 use kind::{Meaning, Readings};
 
 // What a value reads to for a meaning.
+#[tactic(auto, unfolding(crate::specs::Once::readings_for))]
 pub fn readings_for(meaning: Meaning, value: &[u8]) -> Readings
     ensures { result ≡ readings_for meaning value.now }
 {
@@ -19,6 +20,7 @@ pub fn readings_for(meaning: Meaning, value: &[u8]) -> Readings
 }
 
 // Whether a text counts for a meaning and a value that was read.
+#[tactic(auto, unfolding(crate::specs::Once::counts_read))]
 pub fn counts_read(meaning: Meaning, value: &[u8], readings: Readings, text: &[u8]) -> bool
     requires { Kept readings.number }
     ensures { result ≡ counts_read meaning value.now readings text.now }

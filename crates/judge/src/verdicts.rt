@@ -28,6 +28,7 @@ pub fn says_at(
 ) -> bool
     ensures { result ≡ says_at found operator value.now (chosen_of chosen (entries_of card.now)) }
 {
+    // no is_some_and: of a closure that captures a card nothing is known where it is called
     match found {
         Some(found) => says_of(
             card,
@@ -41,6 +42,7 @@ pub fn says_at(
 }
 
 // What a test of this meaning says, where `some` says that some text counts: pr false asks that none does. Its value is true or not.
+#[tactic(auto, unfolding(crate::specs::Verdicts::some_says))]
 pub fn some_says(meaning: Meaning, truth: bool, some: bool) -> bool
     ensures { result ≡ some_says meaning truth some }
 {

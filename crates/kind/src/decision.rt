@@ -110,8 +110,8 @@ pub fn meaning_of(operator: u8, kind: u8) -> Meaning
     let Some(operator) = Operator::of(operator) else {
         return Meaning::Nothing;
     };
-    match Kind::of(kind) {
-        Some(kind) => kind_meaning(operator, kind),
-        None => Meaning::Nothing,
-    }
+    let Some(kind) = Kind::of(kind) else {
+        return Meaning::Nothing;
+    };
+    kind_meaning(operator, kind)
 }

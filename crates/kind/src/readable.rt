@@ -14,23 +14,23 @@ fn reads_on_card(kind: Kind, text: &[u8]) -> bool
 {
     match kind {
         Kind::String => true,
-        Kind::Number => number::readable(text),
-        Kind::Date => date::readable(text),
+        Kind::Number => number::read(text).is_some(),
+        Kind::Date => date::read(text).is_some(),
         Kind::Token => token::card_readable(text),
         Kind::Reference => text.len() != 0,
-        Kind::Period => period::readable(text),
+        Kind::Period => period::read(text).is_some(),
         Kind::Bundle => false,
     }
 }
 
 // Whether a filter's value is readable as a kind: only tokens and periods differ from a card's.
-#[tactic(auto, unfolding(crate::specs::Readable::card_readable, crate::specs::Readable::filter_readable, crate::specs::Table::of_kind, crate::specs::Table::kinds))]
+#[tactic(auto, unfolding(crate::specs::Readable::card_readable, crate::specs::Readable::filter_readable, crate::specs::Table::of_kind, crate::specs::Table::kinds, date::specs::Texts::readable))]
 fn reads_in_filter(kind: Kind, value: &[u8]) -> bool
     ensures { result ≡ filter_readable (kind_number kind) value.now }
 {
     match kind {
         Kind::Token => token::filter_readable(value),
-        Kind::Period => date::readable(value),
+        Kind::Period => date::read(value).is_some(),
         _ => reads_on_card(kind, value),
     }
 }
@@ -40,10 +40,7 @@ fn reads_in_filter(kind: Kind, value: &[u8]) -> bool
 pub fn card_readable(kind: u8, text: &[u8]) -> bool
     ensures { result ≡ card_readable kind text.now }
 {
-    match Kind::of(kind) {
-        Some(kind) => reads_on_card(kind, text),
-        None => false,
-    }
+    Kind::of(kind).is_some_and(|kind| reads_on_card(kind, text))
 }
 
 // Whether the value of pr is true, case ignored.
@@ -70,8 +67,5 @@ pub fn value_readable(operator: u8, kind: u8, value: &[u8]) -> bool
     if operator == Operator::Pr as u8 {
         return is_true(value) || is_false(value);
     }
-    match Kind::of(kind) {
-        Some(kind) => reads_in_filter(kind, value),
-        None => false,
-    }
+    Kind::of(kind).is_some_and(|kind| reads_in_filter(kind, value))
 }

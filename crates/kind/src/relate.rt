@@ -21,6 +21,7 @@ fn strings_relate(relation: StringRelation, text: &[u8], value: &[u8]) -> bool
 }
 
 // A card's number and a filter's.
+// `Bounded`, and `Kept` below, stay clauses: number::unit says why no type holds them.
 pub fn numbers_relate(relation: NumberRelation, i: Decimal, f: Decimal) -> bool
     requires bounded { Bounded i }
     requires bounded_2 { Bounded f }

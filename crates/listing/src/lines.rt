@@ -11,6 +11,7 @@ fn put_number(n: u64, out: &mut [u8]) -> usize
     requires { Room (decimal n) out.old }
     ensures { Puts (decimal n) out.old out.new result }
 {
+    // fixed memory, for the most digits of a number of 64 bits
     let mut digits = [0u8; 20];
     let count = io::decimal(n, &mut digits);
     write_word(&digits[..count], out)

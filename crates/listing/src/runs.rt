@@ -6,7 +6,8 @@ ghost use Rattle.listing.specs.Totals.{most_cards, Countable, Added};
 
 use crate::Totals;
 
-// The totals with a run of `size` bytes, of which `count` cards match.
+// The totals with a run of `size` bytes, of which `count` cards match. `Countable` stays a clause: the totals that this answers may be too
+// many to add to, which the loop in pick tests.
 pub fn add_run(totals: Totals, count: usize, size: usize) -> Totals
     requires countable { Countable totals }
     requires count_bound { count ≤ 128 }

@@ -1,13 +1,11 @@
 -- Judge, as the code comes to its answer.
 -- Assumes nothing.
 use Rattle.std.specs.Prelude.{Result, Err, Ok}
-use Prim.Native.Nat.{ℕ, ◌≤◌, ◌<◌}
-use native.Mathlib.Omega.{arith}
+use Prim.Native.Nat.{ℕ, ◌≤◌}
 use mathlib.Core.Path.{◌≡◌, sym, ap, ap₂, ◌∙◌}
 use mathlib.Core.Bool.{Bool, true, false}
 use mathlib.Core.List.{List}
 use lib.ListN.{length}
-use borrow.Author.Tests.{eq-eqb, ne_eqb, lt-ltb, le-ltb}
 use Rattle.sheet.specs.Sheet.{Parameter, parameters_of, read_sheet}
 use Rattle.sheet.specs.Find.{kinds_of, parents_of}
 use Rattle.sheet.proofs.RoundTrip.{sheet_well_formed}
@@ -18,9 +16,9 @@ use Rattle.rows.specs.Stated.{tree_of}
 use Rattle.rows.proofs.Good.{good_few}
 use Rattle.row_judge.proofs.Meaning.{good-whole, rows_mean}
 use Rattle.refusal.specs.declared.Reason.{Reason}
-use Rattle.refusal.specs.Answers.{yes_or_no, refused, number_of, matched_answer, refusal_answer}
+use Rattle.refusal.specs.Answers.{Answer, yes_or_no, refused, number_of, matched_answer, refusal_answer}
 use Rattle.refusal.specs.Steps.{found, refusal_step, ◌>>=◌, answer}
-use Rattle.answer.specs.Operations.{sheet_step, accept_sheet, Card, accept_card}
+use Rattle.answer.specs.Operations.{accept_sheet, Card, accept_card}
 use Rattle.answer.specs.Passing.{card_verdict}
 use Rattle.one_card.specs.OneCard.{verdict_step, verdict_answer, cells_question}
 use Rattle.answer.specs.Preparing.{accept_size, accept_rows, rows_answer, judge_answer}
@@ -29,20 +27,13 @@ use Rattle.refusal.specs.declared.Refusal.{Refusal}
 
 -- ---- the text's size
 
-module _ (ps : List Parameter) (xs cs card : List ℕ) (r : Result Bool Refusal) where
-  pub judge_empty : length xs ≡ 0 → matched_answer r ≡ refused (number_of Reason.FilterSize) 0 → matched_answer r ≡ rows_answer ps xs cs card
-  unfolding rows_answer accept_size
-  judge_empty z e = e ∙ rw (eq-eqb (length xs) 0 z)
-
-  pub judge_long : 1024 < length xs → matched_answer r ≡ refused (number_of Reason.FilterSize) 0 → matched_answer r ≡ rows_answer ps xs cs card
-  unfolding rows_answer accept_size
-  judge_long l e =
-      let n : length xs ≡ 0 → ⊥ = λ z. omega arith in
-      e ∙ rw (ne_eqb (length xs) 0 n, lt-ltb 1024 (length xs) l)
+pub judge_size : (ps : List Parameter) (xs cs card : List ℕ) (x : Refusal) → accept_size xs ≡ refusal_step x → matched_answer (Err x) ≡ rows_answer ps xs cs card
+unfolding rows_answer matched_answer refusal_answer
+judge_size ps xs cs card x e = rw e
 
 -- ---- the rows
 
-module _ (b xs cs card : List ℕ) (ok : read_sheet b ≡ (Ok tt)) (n : length xs ≡ 0 → ⊥) (l : length xs ≤ 1024) (kinds parents : List ℕ) (ek : kinds ≡ kinds_of (parameters_of b)) (ep : parents ≡ parents_of (parameters_of b))
+module _ (b ys xs cs card : List ℕ) (ok : read_sheet b ≡ (Ok tt)) (i : (xs ≡ ys) × (accept_size ys ≡ found tt)) (kinds parents : List ℕ) (ek : kinds ≡ kinds_of (parameters_of b)) (ep : parents ≡ parents_of (parameters_of b))
     (sound : Bool) (g : sound ≡ good kinds parents xs cs) where
   abbrev ps : List Parameter
   ps = parameters_of b
@@ -51,12 +42,14 @@ module _ (b xs cs card : List ℕ) (ok : read_sheet b ≡ (Ok tt)) (n : length x
   tested = g ∙ ap₂ (λ (k p : List ℕ). good k p xs cs) ek ep
 
   sized : accept_size xs ≡ found tt
-  unfolding accept_size
-  sized = rw (ne_eqb (length xs) 0 n, le-ltb 1024 (length xs) l)
+  sized = rw i.0 i.1
 
-  pub judge_bad : (r : Result Bool Refusal) → sound ≡ false → matched_answer r ≡ refused (number_of Reason.BadRows) 0 → matched_answer r ≡ rows_answer ps xs cs card
+  given : {a : Answer} → a ≡ rows_answer ps xs cs card → a ≡ rows_answer ps ys cs card
+  given e = e ∙ ap (λ (y : List ℕ). rows_answer ps y cs card) i.0
+
+  pub judge_bad : (r : Result Bool Refusal) → sound ≡ false → matched_answer r ≡ refused (number_of Reason.BadRows) 0 → matched_answer r ≡ rows_answer ps ys cs card
   unfolding rows_answer accept_rows
-  judge_bad r h e = e ∙ rw (sized, sym tested ∙ h)
+  judge_bad r h e = given (e ∙ rw (sized, sym tested ∙ h))
 
   module _ (h : sound ≡ true) where
     pub judge_whole : Whole cs
@@ -72,7 +65,7 @@ module _ (b xs cs card : List ℕ) (ok : read_sheet b ≡ (Ok tt)) (n : length x
 
     -- as the code has judged it
     pub judge_verdict : (v : Result Bool Reason) → ((qs : List Parameter) → kinds ≡ kinds_of qs → (i : ℕ) → verdict_step v i ≡ card_verdict (cells_question qs xs cs) i card)
-        → (m : Result Bool Refusal) → matched_answer m ≡ verdict_answer v → matched_answer m ≡ rows_answer ps xs cs card
+        → (m : Result Bool Refusal) → matched_answer m ≡ verdict_answer v → matched_answer m ≡ rows_answer ps ys cs card
     judge_verdict v e m a =
         let verdict : verdict_answer v ≡ answer (accept_card ps 0 card >>= λ c. found (yes_or_no (rows_say (kinds_of ps) xs c.entries cs))) =
         (unfold verdict_answer card_verdict in (rw (e ps ek 0) (ap answer (sym (yes_or_no_after (accept_card ps 0 card) (λ c. rows_say (kinds_of ps) xs c.entries cs))))))
@@ -80,7 +73,7 @@ module _ (b xs cs card : List ℕ) (ok : read_sheet b ≡ (Ok tt)) (n : length x
         let meant : (c : Card) → rows_say (kinds_of ps) xs c.entries cs ≡ filter_says ps 0 c.entries (tree_of ps xs judge_whole.expression) =
         λ c. rows_mean ps (sheet_well_formed b ok) xs cs judge_whole.expression (sym tested ∙ h) judge_whole.states c.entries
         in
-        a ∙ verdict ∙ same-verdicts (accept_card ps 0 card) (λ c. rows_say (kinds_of ps) xs c.entries cs) (λ c. filter_says ps 0 c.entries (tree_of ps xs judge_whole.expression)) meant ∙ sym stated-answer
+        given (a ∙ verdict ∙ same-verdicts (accept_card ps 0 card) (λ c. rows_say (kinds_of ps) xs c.entries cs) (λ c. filter_says ps 0 c.entries (tree_of ps xs judge_whole.expression)) meant ∙ sym stated-answer)
 
 -- ---- the sheet
 

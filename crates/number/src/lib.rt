@@ -6,7 +6,7 @@ ghost use Rattle.std.specs.Prelude.{◌≡◌, ◌^◌, ◌≤◌, ◌<◌, leng
 ghost use Rattle.base.specs.Digits.{is_digit};
 ghost use Rattle.base.specs.Runs.{run};
 ghost use Rattle.number.specs.Value.{Bounded, greater, less, at_least, at_most, covers};
-ghost use Rattle.number.specs.Reading.{DigitText, value_from, read_fraction, read, readable};
+ghost use Rattle.number.specs.Reading.{DigitText, value_from, read_fraction, read};
 ghost use Rattle.number.specs.Billionths.{unit, billionths, inside};
 
 // A number as it is written: its digits as one integer, and how many of them are decimals.
@@ -85,14 +85,6 @@ pub fn read(s: &[u8]) -> Option<Decimal>
     read_fraction(whole, &s[run + 1..])
 }
 
-// Whether the text is readable as a number.
-#[tactic(auto, unfolding(crate::specs::Reading::readable))]
-pub fn readable(s: &[u8]) -> bool
-    ensures { result ≡ readable s.now }
-{
-    read(s).is_some()
-}
-
 // One unit of the last digit in billionths, by the count of decimals.
 const UNITS: [u64; 10] = [
     1_000_000_000,
@@ -108,6 +100,8 @@ const UNITS: [u64; 10] = [
 ];
 
 // One unit of the last digit, in billionths.
+// `Bounded` stays a clause: the definition read_fraction makes Decimals of any digits, so a ghost field would put proofs into it; and with
+// a model a Copy struct that holds a Decimal is moved when it is handed on: card_reader::listed::next_counting then had no proof.
 fn unit(d: Decimal) -> u64
     requires { Bounded d }
     ensures { (result ≡ unit d) × (result ≤ 10 ^ 9) }

@@ -5,14 +5,13 @@
 -- (`rows_says`). By the text, the tree that the walk reads is the one that check has read (`read-from`), so that the walk's answer is what
 -- the text says (`says_done`). The verdict gives match's answer (`match_answered`).
 -- Assumes nothing.
-use Rattle.std.specs.Prelude.{Err, Ok, Result, Option, Some, None}
-use Prim.Native.Nat.{ℕ, ◌≤◌}
+use Rattle.std.specs.Prelude.{Err, Ok, Result, Option, Some, None, MatchOption, MatchResult, IsErrAnd, IfOk, IfErr}
+use Prim.Native.Nat.{ℕ}
 use native.Mathlib.Omega.{arith}
 use mathlib.Core.Path.{◌≡◌, refl, sym, ap, ap₂, subst, ◌∙◌}
 use mathlib.Core.Bool.{Bool, true, false}
 use mathlib.Core.Option.{none, some}
 use mathlib.Core.List.{List}
-use lib.ListN.{length}
 use Rattle.sheet.specs.Sheet.{Parameter, parameters_of}
 use Rattle.sheet.specs.Find.{kinds_of}
 use Rattle.card.specs.Card.{Entry, entries_of, read_card, record_number}
@@ -28,19 +27,17 @@ use Rattle.filter.specs.declared.Spot.{Spot}
 use Rattle.text_judge.specs.declared.Judged.{Judged}
 use Rattle.filter.proofs.Walk.{top-bundle, top_read, was_filter, was_none}
 use Rattle.text_judge.proofs.Judging.{judged_cases, judging_is}
-use Rattle.card_reader.specs.Lists.{ReadsCard}
+use Rattle.card_reader.specs.Lists.{KeepsCard, ReadsCard}
 use Rattle.card_reader.specs.declared.Kept.{Kept}
-use Rattle.row_opener.specs.Opening.{Opens}
-use Rattle.row_opener.specs.declared.Opened.{Opened}
-use Rattle.row_judge.specs.Saying.{rows_say, Whole, Ready}
+use Rattle.row_judge.specs.Saying.{rows_say}
 use Rattle.row_judge.specs.Asking.{LentFor}
-use Rattle.row_judge.proofs.Asking.{lent-on, lent-ready}
+use Rattle.row_judge.proofs.Asking.{lent-on}
 use Rattle.refusal.specs.Answers.{number_of, yes_or_no, refusal_answer, matched_answer}
 use Rattle.refusal.specs.Steps.{found, stop, Step, ◌>>=◌, answer}
 use Rattle.refusal.specs.declared.Reason.{Reason}
 use Rattle.answer.specs.Operations.{Card, card_step, accept_card, Question, match_by, filter_question, match_answer}
 use Rattle.answer.specs.Passing.{Passing, text_says, text_question, card_verdict}
-use Rattle.one_card.specs.OneCard.{verdict_step, AcceptsCard, TakesCard, cells_question, verdict_answer}
+use Rattle.one_card.specs.OneCard.{verdict_step, ReadsBytes, AcceptsCard, TakesCard, cells_question, verdict_answer}
 use Rattle.refusal.specs.declared.Refusal.{Refusal}
 use Rattle.answer.proofs.Passing.{passing_asks, yes_or_no_after}
 use Rattle.block.specs.declared.Flaw.{Flaw}
@@ -52,17 +49,24 @@ module _ (ps : List Parameter) (es : List Entry) (b xs : List ℕ) (p : Passing 
   read-from : (g : Parsed) → filter_at spot.levels xs spot.close spot.at ≡ g → whole xs g ≡ some p.tree
   read-from g h = sym (top_read xs spot s ∙ ap (whole xs) h) ∙ p.reads
 
-  pub says_done : (j : Judged) → w ≡ Some j → j.says ≡ text_says ps es (read xs)
+  says_done : (j : Judged) → w ≡ Some j → j.says ≡ text_says ps es (read xs)
   says_done j h =
       let was = was_filter judged judged_cases (judging true ps spot.bundle (chosen_of every es)) xs spot.close spot.levels spot.at w j.end j.says e h in
       let f = was.tree in
       let same : f ≡ p.tree = (whole_kept xs j.end f p.tree (read-from (parsed j.end f) was.read)).same in
       was.value ∙ judging_is ps spot.bundle (chosen_of every es) f ∙ ap₂ (λ (c : ℕ) (l : List Entry). filter_says ps c l f) (top-bundle xs spot s) (chosen-every es) ∙ rw p.reads (ap (filter_says ps 0 es) same)
 
-  pub says_nothing : (r : Bool) → w ≡ None → r ≡ text_says ps es (read xs)
+  says_nothing : (r : Bool) → w ≡ None → r ≡ text_says ps es (read xs)
   says_nothing r h =
       let z : none ≡ some p.tree = read-from unparsed (was_none judged judged_cases (judging true ps spot.bundle (chosen_of every es)) xs spot.close spot.levels spot.at w e h) in
       cc
+
+  pub says_asked : (r : Bool) (Q : Judged → Type 0) → MatchOption w (r ≡ false) Q → ((j : Judged) → Q j → r ≡ j.says) → r ≡ text_says ps es (read xs)
+  says_asked r Q h q = by_judged w refl h
+    where
+      by_judged : (o : Option Judged) → w ≡ o → MatchOption o (r ≡ false) Q → r ≡ text_says ps es (read xs)
+      by_judged (Some j) i g = q j g ∙ says_done j i
+      by_judged None i g = g ∙ says_nothing false i
 
 -- ---- one card is accepted
 
@@ -72,25 +76,51 @@ accepted_refused kinds b x t = record { same = λ c z. absurd (refused_not x c z
     refused_not : (x : Reason) (c : List ℕ) → ◌≡◌ {A = Result (List ℕ) Reason} (Err x) (Ok c) → ⊥
     refused_not x c z = let y : ◌≡◌ {A = ℕ} 0 1 = cc in omega arith
 
-module _ (kinds b : List ℕ) where
-  -- the bytes are no card
-  pub accepts_flawed : (flaw : Flaw) (x : Reason) → read_card b ≡ Err flaw → ((fits : Bool) (c : Card) (i : ℕ) → card_step (Err flaw) fits c i ≡ stop (number_of x) i) → AcceptsCard kinds b (Err x)
-  unfolding accept_card
-  accepts_flawed flaw x h t =
-      accepted_refused kinds b x (λ ps l i. sym (rw (h, t (conforms ps (entries_of b)) (record { number = record_number b; entries = entries_of b }) i)))
+ok_same : {A B : Type 0} {c d : A} → ◌≡◌ {A = Result A B} (Ok c) (Ok d) → c ≡ d
+ok_same z = cc
 
+err_same : {A B : Type 0} {c d : B} → ◌≡◌ {A = Result A B} (Err c) (Err d) → c ≡ d
+err_same z = cc
+
+not_both : {A B : Type 0} {c : A} {d : B} → ◌≡◌ {A = Result A B} (Ok c) (Err d) → ⊥
+not_both z = let y : ◌≡◌ {A = ℕ} 0 1 = cc in omega arith
+
+-- what reading the bytes says
+pub reads_bytes : (b : List ℕ) (t : Result (List ℕ) Flaw) (r : Result (List ℕ) Reason) (Q : Flaw → Reason → Type 0) → IfOk t (λ card. (card ≡ b) × (read_card b ≡ Ok tt)) → IfErr t (λ flaw. read_card b ≡ Err flaw)
+    → MatchResult t (λ x. r ≡ Ok x) (λ e. IsErrAnd r (Q e)) → ((e : Flaw) (x : Reason) → Q e x → (fits : Bool) (c : Card) (i : ℕ) → card_step (Err e) fits c i ≡ stop (number_of x) i) → ReadsBytes b r
+unfolding accept_card
+reads_bytes b (Ok k) r Q h f m q = record { same = λ c z. (ok_same (sym z ∙ m) ∙ h.0, h.1); refused = λ x z. absurd (not_both (sym m ∙ z)) }
+reads_bytes b (Err e) (Ok k) Q h f m q = absurd m
+reads_bytes b (Err e) (Err y) Q h f m q =
+    record {
+      same = λ c z. absurd (not_both (sym z));
+      refused = λ x z ps i. ap (λ (n : Reason). stop (number_of n) i) (sym (err_same z)) ∙ sym (rw (f, q e y m (conforms ps (entries_of b)) (record { number = record_number b; entries = entries_of b }) i));
+    }
+
+module _ (kinds b : List ℕ) where
   module _ (o : Bool) (g : o ≡ conforms_to kinds (entries_of b)) (h : read_card b ≡ (Ok tt)) where
     fits : (ps : List Parameter) → kinds ≡ kinds_of ps → conforms ps (entries_of b) ≡ o
     fits ps l = sym (g ∙ ap (λ (k : List ℕ). conforms_to k (entries_of b)) l ∙ table_conforms ps (entries_of b))
 
-    pub accepts_misfit : o ≡ false → AcceptsCard kinds b (Err Reason.CardMisfit)
+    accepts_misfit : o ≡ false → AcceptsCard kinds b (Err Reason.CardMisfit)
     accepts_misfit n = accepted_refused kinds b Reason.CardMisfit (λ ps l i. (unfold accept_card in rw (h, fits ps l ∙ n)))
 
-    pub accepts_conforming : o ≡ true → AcceptsCard kinds b (Ok b)
+    accepts_conforming : o ≡ true → AcceptsCard kinds b (Ok b)
     accepts_conforming y = record { same = λ c z. sym (ok_same z); well_formed = λ c z. h; steps = λ ps l i. (unfold accept_card in rw (h, fits ps l ∙ y)) }
-      where
-        ok_same : {c d : List ℕ} → ◌≡◌ {A = Result (List ℕ) Reason} (Ok c) (Ok d) → c ≡ d
-        ok_same z = cc
+
+module _ (kinds b : List ℕ) (t : Result (List ℕ) Reason) (w : ReadsBytes b t) where
+  pub read-refused : (x : Reason) → t ≡ Err x → AcceptsCard kinds b (Err x)
+  read-refused x h = accepted_refused kinds b x (λ ps _ i. w.refused x h ps i)
+
+  module _ (c : List ℕ) (h : t ≡ Ok c) (o : Bool) (g : o ≡ conforms_to kinds (entries_of c)) where
+    same : o ≡ conforms_to kinds (entries_of b)
+    same = g ∙ ap (λ (d : List ℕ). conforms_to kinds (entries_of d)) (w.same c h).0
+
+    pub read-misfit : o ≡ false → AcceptsCard kinds b (Err Reason.CardMisfit)
+    read-misfit n = accepts_misfit kinds b o same (w.same c h).1 n
+
+    pub read-conforms : o ≡ true → AcceptsCard kinds b (Ok c)
+    read-conforms y = subst (λ (d : List ℕ). AcceptsCard kinds b (Ok d)) (sym (w.same c h).0) (accepts_conforming kinds b o same (w.same c h).1 y)
 
 -- ---- and judged
 
@@ -115,45 +145,29 @@ module _ (kinds b : List ℕ) (t : Result (List ℕ) Reason) (e : AcceptsCard ki
 
 -- ---- and what it holds is kept
 
-module _ (kinds b : List ℕ) (kept : Kept) where
-  -- the bytes are no card
-  pub takes_flawed : (flaw : Flaw) (x : Reason) → read_card b ≡ Err flaw → ((fits : Bool) (c : Card) (i : ℕ) → card_step (Err flaw) fits c i ≡ stop (number_of x) i) → TakesCard kinds b kept kept (Err x)
-  takes_flawed flaw x h t =
-      record {
-        accepts = accepts_flawed kinds b flaw x h t;
-        begins = record { kinds_are = refl; asked_are = refl };
-        keeps = λ c z. absurd (let y : ◌≡◌ {A = ℕ} 0 1 = cc in omega arith);
-      }
+module _ (kinds b : List ℕ) (t : Result (List ℕ) Reason) (w : ReadsBytes b t) (before : Kept) where
+  pub takes_refused : (x : Reason) → t ≡ Err x → TakesCard kinds b before before (Err x)
+  takes_refused x h = record { accepts = read-refused kinds b t w x h; begins = record { kinds_are = refl; asked_are = refl }; keeps = λ c z. absurd (not_both (sym z)) }
 
-module _ (kinds b k : List ℕ) (s : k ≡ b) (h : read_card b ≡ (Ok tt)) (before kept : Kept) (o : Bool) (r : ReadsCard kinds k before kept o) where
-  w : ReadsCard kinds b before kept o
-  w = subst (λ (d : List ℕ). ReadsCard kinds d before kept o) s r
+  module _ (c : List ℕ) (h : t ≡ Ok c) (kept : Kept) (o : Bool) (r : ReadsCard kinds c before kept o) where
+    pub takes_misfit : o ≡ false → TakesCard kinds b before kept (Err Reason.CardMisfit)
+    takes_misfit n = record { accepts = read-misfit kinds b t w c h o r.answer n; begins = r.begins; keeps = λ d z. absurd (not_both (sym z)) }
 
-  pub takes_misfit : o ≡ false → TakesCard kinds b before kept (Err Reason.CardMisfit)
-  takes_misfit n =
-      record {
-        accepts = accepts_misfit kinds b o w.answer h n;
-        begins = w.begins;
-        keeps = λ c z. absurd (let y : ◌≡◌ {A = ℕ} 0 1 = cc in omega arith);
-      }
+    pub takes_conforming : o ≡ true → TakesCard kinds b before kept (Ok c)
+    takes_conforming y = record { accepts = read-conforms kinds b t w c h o r.answer y; begins = r.begins; keeps = λ _ _. subst (λ (d : List ℕ). KeepsCard d kept) (w.same c h).0 (r.keeps y) }
 
-  pub takes_conforming : o ≡ true → TakesCard kinds b before kept (Ok k)
-  takes_conforming y =
-      subst (λ (d : List ℕ). TakesCard kinds b before kept (Ok d)) (sym s)
-      (record { accepts = accepts_conforming kinds b o w.answer h y; begins = w.begins; keeps = λ _ _. w.keeps y })
+-- what is kept is of the card
+pub taken-keeps : (kinds b : List ℕ) (before kept : Kept) (t : Result (List ℕ) Reason) → TakesCard kinds b before kept t → (c : List ℕ) → t ≡ Ok c → KeepsCard c kept
+taken-keeps kinds b before kept t w c k = subst (λ (d : List ℕ). KeepsCard d kept) (sym (w.accepts.same c k)) (w.keeps c k)
 
 module _ (kinds xs rows b : List ℕ) (before kept : Kept) (t : Result (List ℕ) Reason) (l : LentFor kinds rows before) (w : TakesCard kinds b before kept t) where
   -- it stays lent for the rows
   pub taken-lent : LentFor kinds rows kept
   taken-lent = lent-on kinds rows before kept l w.begins
 
-  -- rows that were opened are ready for the card
-  pub taken-ready : (values : List (Option Opened)) → length xs ≤ 1024 → Whole rows → Opens kinds xs rows values (length rows) → (c : List ℕ) → t ≡ Ok c → Ready xs rows values c kept
-  taken-ready values h e o c k = subst (λ (d : List ℕ). Ready xs rows values d kept) (sym (w.accepts.same c k)) (lent-ready kinds xs rows b kept taken-lent values h e o (w.keeps c k))
-
-  pub taken-says : (v : Bool) (c : List ℕ) → t ≡ Ok c → v ≡ rows_say kept.kinds xs (chosen_of every (entries_of c)) rows
+  pub taken-says : (v : Bool) (c : List ℕ) → t ≡ Ok c → v ≡ rows_say kinds xs (chosen_of every (entries_of c)) rows
       → (ps : List Parameter) → kinds ≡ kinds_of ps → (i : ℕ) → found v ≡ card_verdict (cells_question ps xs rows) i b
-  taken-says v c h s = rows_says kinds b t w.accepts xs rows v c h (s ∙ ap (λ (k : List ℕ). rows_say k xs (chosen_of every (entries_of c)) rows) taken-lent.kinds_are)
+  taken-says v c h s = rows_says kinds b t w.accepts xs rows v c h s
 
   pub taken_refused : (x : Reason) → t ≡ Err x → (ps : List Parameter) → kinds ≡ kinds_of ps → (i : ℕ) → stop (number_of x) i ≡ card_verdict (cells_question ps xs rows) i b
   taken_refused x c = rows_refused kinds b t w.accepts xs rows x c
@@ -177,15 +191,10 @@ filter_answered b xs card p = match_answered (filter_question b xs) (text_questi
 
 -- ---- a verdict as match's answer
 
-module _ (v : Result Bool Reason) where
-  pub verdict_yes : (y : Bool) → v ≡ Ok y → y ≡ true → matched_answer (Ok true) ≡ verdict_answer v
-  unfolding matched_answer verdict_answer
-  verdict_yes y h k = rw (h, k)
-
-  pub verdict_no : (y : Bool) → v ≡ Ok y → y ≡ false → matched_answer (Ok false) ≡ verdict_answer v
-  unfolding matched_answer verdict_answer
-  verdict_no y h k = rw (h, k)
-
-  pub verdict_refused : (r : Refusal) → v ≡ Err r.reason → r.place ≡ 0 → matched_answer (Err r) ≡ verdict_answer v
-  unfolding matched_answer refusal_answer verdict_answer
-  verdict_refused r h z = rw (h, z)
+pub answers_verdict : (v : Result Bool Reason) (m : Result Bool Refusal) (Q : Reason → Refusal → Type 0) → MatchResult v (λ y. m ≡ Ok y) (λ e. IsErrAnd m (Q e)) → ((e : Reason) (r : Refusal) → Q e r → (r.reason ≡ e) × (r.place ≡ 0))
+    → matched_answer m ≡ verdict_answer v
+unfolding matched_answer refusal_answer verdict_answer
+answers_verdict (Ok true) m Q h q = rw h
+answers_verdict (Ok false) m Q h q = rw h
+answers_verdict (Err e) (Ok y) Q h q = absurd h
+answers_verdict (Err e) (Err r) Q h q = let w = q e r h in rw (w.0, w.1)

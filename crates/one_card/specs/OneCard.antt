@@ -19,6 +19,11 @@ abbrev pub acceptance_step : Result (List ℕ) Reason → ℕ → Step Card
 acceptance_step (Ok b) i = found (record { number = record_number b; entries = entries_of b })
 acceptance_step (Err r) i = stop (number_of r) i
 
+-- what reading a card's bytes answers: the card itself, which is well formed, or the refusal of what is wrong with them
+pub record ReadsBytes (card : List ℕ) (r : Result (List ℕ) Reason) : Type 0 where
+  pub same : (b : List ℕ) → r ≡ Ok b → (b ≡ card) × (read_card card ≡ (Ok tt))
+  pub refused : (x : Reason) → r ≡ Err x → (ps : List Parameter) (i : ℕ) → stop (number_of x) i ≡ accept_card ps i card
+
 -- what accepting a card answers, by the kinds of the sheet: the card itself, which is well formed, or why it is refused
 pub record AcceptsCard (kinds card : List ℕ) (r : Result (List ℕ) Reason) : Type 0 where
   pub same : (b : List ℕ) → r ≡ Ok b → b ≡ card

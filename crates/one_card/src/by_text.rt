@@ -10,29 +10,32 @@ ghost use Rattle.one_card.specs.OneCard.{verdict_step};
 use crate::accept_card;
 use card::Card;
 use filter::top;
-use judge::Chosen;
 use refusal::Reason;
 use sheet::Sheet;
-use text_judge::{Judged, judge_filter};
+use syntax::FilterText;
+use text_judge::AskedCard;
 
 // What a filter that check has passed says of a well-formed card.
-fn text_says(sheet: &Sheet<'_>, filter: &[u8], card: &Card<'_>) -> bool
+fn text_says(sheet: &Sheet<'_>, filter: &FilterText<'_>, card: &Card<'_>) -> bool
     requires passing { Passing sheet.now filter.now }
     ensures { result ≡ text_says (parameters_of sheet.now) (entries_of card.now) (read filter.now) }
 {
-    let spot = top(filter);
-    let every: Chosen = None;
-    match judge_filter(true, sheet, card, every, filter, spot) {
-        Some(judged) => judged.says,
-        None => false,
-    }
+    let asked = AskedCard {
+        sheet,
+        card,
+        chosen: None,
+        filter,
+    };
+    asked
+        .judge_filter(true, top(filter.bytes))
+        .is_some_and(|judged| judged.says)
 }
 
 // The verdict of a filter's text on a card, or why the card is refused; `kinds` are those of the sheet.
 pub fn judge_by_text(
     sheet: &Sheet<'_>,
     kinds: &[u8],
-    filter: &[u8],
+    filter: &FilterText<'_>,
     card: &[u8],
 ) -> Result<bool, Reason>
     requires passing { Passing sheet.now filter.now }

@@ -5,7 +5,7 @@ mod by_rows;
 mod by_text;
 
 ghost use Rattle.std.specs.Prelude.{◌≡◌, ℕ, Bool, Err};
-ghost use Rattle.one_card.specs.OneCard.{AcceptsCard, verdict_answer};
+ghost use Rattle.one_card.specs.OneCard.{ReadsBytes, AcceptsCard, verdict_answer};
 ghost use Rattle.refusal.specs.Answers.{matched_answer, number_of};
 ghost use Rattle.refusal.specs.Steps.{stop};
 ghost use Rattle.answer.specs.Operations.{Card as Accepted, card_step};
@@ -28,33 +28,28 @@ fn card_reason(flaw: Flaw) -> Reason
     }
 }
 
+// The card that any bytes are, or why it is none.
+fn read_card(bytes: &[u8]) -> Result<Card<'_>, Reason>
+    ensures { ReadsBytes bytes.now result }
+{
+    Card::read(bytes).map_err(card_reason)
+}
+
 // The card that any bytes are, where it conforms, or its refusal; `kinds` are those of the sheet.
-#[tactic(auto, using(crate::proofs::Judging::accepts_conforming, crate::proofs::Judging::accepts_misfit))]
 pub fn accept_card<'a>(kinds: &[u8], bytes: &'a [u8]) -> Result<Card<'a>, Reason>
     ensures { AcceptsCard kinds.now bytes.now result }
 {
-    match Card::read(bytes) {
-        Ok(card) => {
-            if conforms(kinds, &card) {
-                return Ok(card);
-            }
-            Err(Reason::CardMisfit)
-        }
-        Err(flaw) => Err(card_reason(flaw)),
+    let card = read_card(bytes)?;
+    let fits = conforms(kinds, &card);
+    if !fits {
+        return Err(Reason::CardMisfit);
     }
+    Ok(card)
 }
 
 // The verdict on one card as match's answer.
 pub fn answered(verdict: Result<bool, Reason>) -> Result<bool, Refusal>
     ensures { matched_answer result ≡ verdict_answer verdict }
 {
-    match verdict {
-        Ok(yes) => {
-            if yes {
-                return Ok(true);
-            }
-            Ok(false)
-        }
-        Err(reason) => Err(Refusal { reason, place: 0 }),
-    }
+    verdict.map_err(|reason| Refusal { reason, place: 0 })
 }

@@ -1,10 +1,11 @@
 -- Laws of reading, as the code does it. Numbers of seconds are read back from their bits.
 -- Assumes nothing.
-use Rattle.std.specs.Prelude.{Option, Some, None}
+use Rattle.std.specs.Prelude.{Option, Some, None, MatchOption, IsSomeAnd}
 use Prim.Native.Nat.{ℕ, ◌+◌, ◌-◌, ◌≤◌, ◌<◌}
 use mathlib.Core.Path.{◌≡◌, sym, ap, ◌∙◌}
 use mathlib.Core.Bool.{Bool, true, false}
 use mathlib.Core.List.{List}
+use native.Mathlib.Omega.{arith}
 use lib.IntN.{ℤ}
 use lib.ListN.{length, take, drop}
 use lib.Signed.{lt_z}
@@ -105,10 +106,18 @@ module _ (t : List ℕ) (i : ℕ) (e : i ≡ first_of slash t) where
 -- ---- the whole
 
 module _ (t : List ℕ) (r : Option Date) (e : r ≡ texts.read t) where
-  pub span_date : (d : Date) (p : Period) → r ≡ Some d → p ≡ known d → Some p ≡ read_span t
+  span_date : (d : Date) (p : Period) → r ≡ Some d → p ≡ known d → Some p ≡ read_span t
   unfolding read_span span_or
   span_date d p h k = rw (sym e ∙ h) (ap (λ (x : Period). Some x) k)
 
-  pub span_period : (q : Option Period) → r ≡ None → q ≡ read t → q ≡ read_span t
+  span_period : (q : Option Period) → r ≡ None → q ≡ read t → q ≡ read_span t
   unfolding read_span span_or
   span_period q h k = rw (sym e ∙ h) k
+
+  -- what is made of a date that is read, and where none is, what else is read
+  pub span_first : (P : Date → Period → Type 0) (Q : Type 0) (o : Option Date) (m q : Option Period) → r ≡ o → MatchOption o (m ≡ None) (λ d. IsSomeAnd m (P d))
+      → MatchOption m Q (λ p. q ≡ Some p) → ((d : Date) (p : Period) → P d p → p ≡ known d) → (Q → q ≡ read t) → q ≡ read_span t
+  span_first P Q (Some d) (Some p) q h x y f g = y ∙ span_date d p h (f d p x)
+  span_first P Q (Some d) None q h x y f g = elim x [ ]
+  span_first P Q None None q h x y f g = span_period q h (g y)
+  span_first P Q None (Some p) q h x y f g = let z : ◌≡◌ {A = ℕ} 0 1 = cc in absurd (omega arith)

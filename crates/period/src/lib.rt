@@ -9,7 +9,7 @@ pub use compare::{
     covers, earlier, earlier_or_inside, ends_before, inside, later, later_or_inside, overlaps,
     starts_after,
 };
-pub use reader::{known, read, read_span, readable};
+pub use reader::{known, read, read_span};
 
 // A period: the seconds from `start` up to but without `end`, counted from 1970-01-01T00:00:00Z. A missing end is None: a
 // missing start lies before every date that can be written, a missing end behind it.

@@ -2,7 +2,7 @@
 ghost use Rattle.std.specs.Prelude.{◌≡◌};
 ghost use Rattle.std.specs.Int.Signed.{lt_z};
 ghost use Rattle.date.specs.Texts as texts;
-ghost use Rattle.period.specs.Texts.{known, from_to, both_ends, open_end, open_start, read_parts, read, readable, read_span};
+ghost use Rattle.period.specs.Texts.{known, from_to, both_ends, open_end, open_start, read_parts, read, read_span};
 
 use crate::Period;
 use date::Date;
@@ -93,20 +93,9 @@ pub fn read(s: &[u8]) -> Option<Period>
     None
 }
 
-// Whether a text reads to a period.
-#[tactic(auto, unfolding(crate::specs::Texts::readable))]
-pub fn readable(s: &[u8]) -> bool
-    ensures { result ≡ readable s.now }
-{
-    read(s).is_some()
-}
-
 // The span of a card's text, a date or a period.
 pub fn read_span(s: &[u8]) -> Option<Period>
     ensures { result ≡ read_span s.now }
 {
-    match date::read(s) {
-        Some(d) => Some(known(d)),
-        None => read(s),
-    }
+    date::read(s).map(known).or_else(|| read(s))
 }

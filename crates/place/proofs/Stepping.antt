@@ -4,7 +4,8 @@
 -- (`advances`). That fewer than j brackets are open is that the number is below 2 to the j (`fewer`, by induction on j). The loop keeps
 -- `Reaching`: what the machine answers from the state reached over the bytes that are left is its answer to the whole text.
 -- Assumes nothing.
-use Rattle.std.specs.Prelude.{Err, Ok, Result, ⊤, Option, Some, is_some}
+use Rattle.std.specs.Prelude.{Err, Ok, Result, ⊤, Option, Some, is_some, MatchResult}
+use Rattle.std.specs.Result.{IsErrAnd}
 use Prim.Native.Nat.{ℕ, zero, suc, ◌+◌, ◌-◌, ◌*◌, ◌/◌, ◌%◌, ◌≤◌, ◌<◌}
 use Prim.Native.Char.{code}
 use native.Mathlib.Omega.{arith}
@@ -448,3 +449,11 @@ module _ (xs : List ℕ) (r : Result ⊤ Refusal) (e : r ≡ found deepest most_
       go : (t : Bool) → cond t (Ok (tt {0})) (Err (failure deepest most_tests xs)) ≡ Err f → f ≡ failure deepest most_tests xs
       go true z = absurd (let y : ◌≡◌ {A = ℕ} 0 1 = cc in omega arith)
       go false z = cc
+
+-- a refusal that was made of a reason
+pub refused_by : (Q : Reason → Refusal → Type 0) (o : Outcome) (m : Result Reached Refusal) → MatchResult o (λ y. m ≡ Ok y) (λ e. IsErrAnd m (Q e)) → (x : Refusal) → m ≡ Err x → (e : Reason) × ((o ≡ Err e) × Q e x)
+refused_by Q (Ok y) m h x i = let z : ◌≡◌ {A = ℕ} 0 1 = cc in absurd (omega arith)
+refused_by Q (Err e) (Ok y) h x i = let z : ◌≡◌ {A = ℕ} 0 1 = cc in absurd (omega arith)
+refused_by Q (Err e) (Err y) h x i =
+    let same : y ≡ x = cc in
+    (e, (refl, subst (Q e) same h))

@@ -69,11 +69,7 @@ fn item_over(mode: Mode) -> bool
 fn is_over(reached: Reached) -> bool
     ensures { result ≡ over reached }
 {
-    let mode = reached.mode;
-    if item_over(mode) {
-        return reached.brackets == 1;
-    }
-    false
+    item_over(reached.mode) && reached.brackets == 1
 }
 
 // Whether a text is a filter, or where it stops being the beginning of one.
@@ -86,10 +82,7 @@ pub fn find(s: &[u8]) -> Result<(), Refusal>
         tests: 1,
     };
     for at in 0..s.len() {
-        match advance(s, at, reached) {
-            Ok(next) => reached = next,
-            Err(reason) => return Err(Refusal { reason, place: at }),
-        }
+        reached = advance(s, at, reached).map_err(move |reason| Refusal { reason, place: at })?;
     }
     if is_over(reached) {
         return Ok(());
@@ -105,11 +98,8 @@ pub fn find(s: &[u8]) -> Result<(), Refusal>
 pub fn find_failure(s: &[u8]) -> Refusal
     ensures { result ≡ failure deepest most_tests s.now }
 {
-    match find(s) {
-        Ok(()) => Refusal {
-            reason: Reason::NoFilter,
-            place: s.len(),
-        },
-        Err(failure) => failure,
-    }
+    find(s).err().unwrap_or(Refusal {
+        reason: Reason::NoFilter,
+        place: s.len(),
+    })
 }

@@ -211,10 +211,7 @@ fn is_other(b: u8) -> bool
 fn begins_operator(b: u8) -> bool
     ensures { result ≡ begins_operator b }
 {
-    if is_first(b) {
-        return true;
-    }
-    is_other(b)
+    is_first(b) || is_other(b)
 }
 
 // Whether two letters are an operator.
@@ -264,8 +261,11 @@ fn value_byte(b: u8, brackets: usize, tests: usize) -> Outcome
     Err(Reason::NoFilter)
 }
 
+// How many brackets are open and how many tests have begun are handed on one by one, as the definitions of the steps have them (`name_step`,
+// `member_step`, ..): a struct would be made and taken apart at each.
+
 // The byte in or after a bare word.
-// Not one function with `ends`, though it has its form: other bytes are taken here, and what follows else is `ends` itself.
+// Not one function with `ends`, though it has its form: this takes the bytes of a bare word, and leaves all others to `ends`.
 fn bare_byte(b: u8, brackets: usize, tests: usize) -> Outcome
     ensures { result ≡ bare_step b brackets tests }
 {

@@ -13,14 +13,12 @@ use lib.Dec.{eqb}
 use lib.ListN.{length, get_or, take, drop, drop_of_length-le}
 use borrow.Author.Tests.{eq-eqb, ne_eqb, le-leb, lt-leb}
 use Rattle.base.specs.Lists.{every}
-use Rattle.base.specs.Parts.{part}
 use Rattle.base.proofs.Lists.{drop-next}
 use Rattle.syntax.specs.Strings.{quote, backslash, is_bare, is_plain}
-use Rattle.syntax.specs.Scan.{decode, Decoded}
-use Rattle.syntax.specs.declared.RawValue.{RawValue}
+use Rattle.syntax.specs.Scan.{decode, contents, Decoded}
 use Rattle.plain.specs.Plain.{is_word, escape_of, escaped, plain_value}
 use Rattle.base.specs.Writing.{Room, Puts}
-use Rattle.plain.specs.Writing.{escaped_byte, quoted, value_of}
+use Rattle.plain.specs.Writing.{escaped_byte, quoted}
 use Rattle.base.proofs.Writing.{room_same, puts_same, lent, back, Wrote, wrote_start, wrote_room, wrote_fits, wrote_next, wrote_end, first_room, first-within, second_room, second_wrote, third_room, third_wrote}
 
 -- ---- a byte between the quotes
@@ -193,25 +191,23 @@ module _ (raw buffer : List ℕ) (n : ℕ) (d : Decoded raw buffer n) where
   pub decoded_puts : {out exit : List ℕ} {k : ℕ} → Puts (plain_value (take n buffer)) out exit k → Puts (plain_value (decode false raw)) out exit k
   decoded_puts = puts_same (ap plain_value d.is)
 
-module _ (xs : List ℕ) (v : RawValue) where
-  module _ (e : v.escaped ≡ true) where
-    value-decoded : value_of xs v ≡ decode false (part xs v.start v.end)
-    unfolding value_of
-    value-decoded = rw e
+module _ (value : List ℕ) (e : Bool) (raw : List ℕ) (is : value ≡ contents e raw) where
+  module _ (h : e ≡ true) where
+    value-decoded : value ≡ decode false raw
+    value-decoded = is ∙ rw h
 
-    pub value-decoded_room : {out : List ℕ} → Room (plain_value (value_of xs v)) out → Room (plain_value (decode false (part xs v.start v.end))) out
+    pub value-decoded_room : {out : List ℕ} → Room (plain_value value) out → Room (plain_value (decode false raw)) out
     value-decoded_room = room_same (ap plain_value value-decoded)
 
-    pub value-decoded_puts : {out exit : List ℕ} {k : ℕ} → Puts (plain_value (decode false (part xs v.start v.end))) out exit k → Puts (plain_value (value_of xs v)) out exit k
+    pub value-decoded_puts : {out exit : List ℕ} {k : ℕ} → Puts (plain_value (decode false raw)) out exit k → Puts (plain_value value) out exit k
     value-decoded_puts = puts_same (ap plain_value (sym value-decoded))
 
-  module _ (e : v.escaped ≡ false) where
-    value_raw : value_of xs v ≡ part xs v.start v.end
-    unfolding value_of
-    value_raw = rw e
+  module _ (h : e ≡ false) where
+    value_raw : value ≡ raw
+    value_raw = is ∙ rw h
 
-    pub value_raw_room : {out : List ℕ} → Room (plain_value (value_of xs v)) out → Room (plain_value (part xs v.start v.end)) out
+    pub value_raw_room : {out : List ℕ} → Room (plain_value value) out → Room (plain_value raw) out
     value_raw_room = room_same (ap plain_value value_raw)
 
-    pub value_raw_puts : {out exit : List ℕ} {k : ℕ} → Puts (plain_value (part xs v.start v.end)) out exit k → Puts (plain_value (value_of xs v)) out exit k
+    pub value_raw_puts : {out exit : List ℕ} {k : ℕ} → Puts (plain_value raw) out exit k → Puts (plain_value value) out exit k
     value_raw_puts = puts_same (ap plain_value (sym value_raw))

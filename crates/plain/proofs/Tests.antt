@@ -8,14 +8,13 @@ use lib.ListN.{length, get_or}
 use Rattle.base.specs.Ascii.{ascii}
 use Rattle.base.specs.Lists.{equal}
 use Rattle.base.specs.Operators.{operator_words}
-use Rattle.base.specs.Parts.{part}
 use Rattle.base.proofs.Below.{passes_at}
 use Rattle.base.proofs.Lists.{equal-same}
-use Rattle.syntax.specs.declared.RawTest.{RawTest}
+use Rattle.syntax.specs.Tree.{Test, name}
 use Rattle.syntax.proofs.Operators.{operator_letters}
 use Rattle.plain.specs.Plain.{operator_word, plain_value, plain_test}
 use Rattle.base.specs.Writing.{Room, Puts}
-use Rattle.plain.specs.Writing.{value_of, operator_text, test_text}
+use Rattle.plain.specs.Writing.{operator_text}
 use Rattle.base.proofs.Writing.{room_same, puts_same, lent, back, Wrote, wrote_end, first_room, first-within, second_room, second_wrote, third_room, third_wrote}
 
 -- ---- the operator: its letters stand in one text, from 2 * k on
@@ -39,37 +38,34 @@ module _ (words : List ℕ) (k : ℕ) (e : words ≡ operator_letters) (h : k < 
 
 -- ---- a test
 
-module _ (xs : List ℕ) (t : RawTest) (out : List ℕ) (h : Room (test_text xs t) out) where
-  abbrev name : List ℕ
-  name = part xs t.at t.until
+module _ (t : Test) (out : List ℕ) (h : Room (plain_test t) out) (word : List ℕ) (named : t.path ≡ name word) (o : ℕ) (is : o ≡ t.operator) where
+  test_parts : plain_test t ≡ word ++ (operator_text o ++ plain_value t.value)
+  unfolding plain_test operator_text
+  test_parts = rw (named, ← is) (ap (λ (x : List ℕ). word ++ (0x20 ∷ x)) (sym (append_assoc (operator_word o) (ascii " ") (plain_value t.value))))
 
-  test_parts : test_text xs t ≡ name ++ (operator_text t.operator ++ plain_value (value_of xs t.value))
-  unfolding test_text plain_test operator_text value_of
-  test_parts = ap (λ (x : List ℕ). name ++ (0x20 ∷ x)) (sym (append_assoc (operator_word t.operator) (ascii " ") (plain_value (value_of xs t.value))))
-
-  parts : Room (name ++ (operator_text t.operator ++ plain_value (value_of xs t.value))) out
+  parts : Room (word ++ (operator_text o ++ plain_value t.value)) out
   parts = room_same test_parts h
 
-  pub name_room : Room name out
-  name_room = first_room name (operator_text t.operator ++ plain_value (value_of xs t.value)) out parts
+  pub name_room : Room word out
+  name_room = first_room word (operator_text o ++ plain_value t.value) out parts
 
-  module _ {out₁ : List ℕ} {n : ℕ} (p : Puts name out out₁ n) where
+  module _ {out₁ : List ℕ} {n : ℕ} (p : Puts word out out₁ n) where
     pub name_within : n ≤ length out₁
-    name_within = first-within name (operator_text t.operator ++ plain_value (value_of xs t.value)) out parts p
+    name_within = first-within word (operator_text o ++ plain_value t.value) out parts p
 
-    pub middle_room : Room (operator_text t.operator) (lent out₁ n)
-    middle_room = second_room name (operator_text t.operator) (plain_value (value_of xs t.value)) out parts p
+    pub middle_room : Room (operator_text o) (lent out₁ n)
+    middle_room = second_room word (operator_text o) (plain_value t.value) out parts p
 
-    module _ {exit : List ℕ} {k : ℕ} (q : Puts (operator_text t.operator) (lent out₁ n) exit k) where
+    module _ {exit : List ℕ} {k : ℕ} (q : Puts (operator_text o) (lent out₁ n) exit k) where
       pub middle_within : n + k ≤ length (back out₁ n exit)
-      middle_within = omega (arith, (second_wrote name (operator_text t.operator) (plain_value (value_of xs t.value)) out parts p q).within)
+      middle_within = omega (arith, (second_wrote word (operator_text o) (plain_value t.value) out parts p q).within)
 
-      pub value_room : Room (plain_value (value_of xs t.value)) (lent (back out₁ n exit) (n + k))
-      value_room = third_room name (operator_text t.operator) (plain_value (value_of xs t.value)) out parts p q
+      pub value_room : Room (plain_value t.value) (lent (back out₁ n exit) (n + k))
+      value_room = third_room word (operator_text o) (plain_value t.value) out parts p q
 
-      module _ {exit₂ : List ℕ} {m : ℕ} (r : Puts (plain_value (value_of xs t.value)) (lent (back out₁ n exit) (n + k)) exit₂ m) where
-        test_wrote : Wrote (name ++ (operator_text t.operator ++ plain_value (value_of xs t.value))) [] out (back (back out₁ n exit) (n + k) exit₂) (n + k + m)
-        test_wrote = third_wrote name (operator_text t.operator) (plain_value (value_of xs t.value)) out parts p q r
+      module _ {exit₂ : List ℕ} {m : ℕ} (r : Puts (plain_value t.value) (lent (back out₁ n exit) (n + k)) exit₂ m) where
+        test_wrote : Wrote (word ++ (operator_text o ++ plain_value t.value)) [] out (back (back out₁ n exit) (n + k) exit₂) (n + k + m)
+        test_wrote = third_wrote word (operator_text o) (plain_value t.value) out parts p q r
 
         pub test_long : length (back (back out₁ n exit) (n + k) exit₂) ≡ length out
         test_long = test_wrote.long
@@ -77,5 +73,5 @@ module _ (xs : List ℕ) (t : RawTest) (out : List ℕ) (h : Room (test_text xs 
         pub test_within : n + k + m ≤ length out
         test_within = omega (arith, test_wrote.long, test_wrote.within)
 
-        pub test_puts : Puts (test_text xs t) out (back (back out₁ n exit) (n + k) exit₂) (n + k + m)
+        pub test_puts : Puts (plain_test t) out (back (back out₁ n exit) (n + k) exit₂) (n + k + m)
         test_puts = puts_same (sym test_parts) (wrote_end test_wrote refl)

@@ -4,13 +4,12 @@ ghost use Rattle.std.specs.Prelude.{◌≡◌, false, ◌≤◌, length};
 ghost use Rattle.base.specs.Lists.{every};
 ghost use Rattle.syntax.specs.Strings.{is_bare, is_plain};
 ghost use Rattle.syntax.specs.Scan.{decode as decoded};
-ghost use Rattle.syntax.specs.Placed.{PlacedValue};
 ghost use Rattle.plain.specs.Plain.{is_word, escape_of, escaped, plain_value};
 ghost use Rattle.base.specs.Writing.{Room, Puts};
-ghost use Rattle.plain.specs.Writing.{escaped_byte, quoted, value_of};
+ghost use Rattle.plain.specs.Writing.{escaped_byte, quoted};
 
 use base::write_word;
-use syntax::RawValue;
+use syntax::FilterTest;
 use syntax::value::{decode, is_bare};
 
 // Whether every byte may stand in a bare word.
@@ -116,17 +115,15 @@ fn write_decoded(raw: &[u8], out: &mut [u8]) -> usize
     write_plain(&value[..n], out)
 }
 
-// Writes a value of the filter in its plain spelling, and answers its length.
-pub fn write_value(filter: &[u8], value: RawValue, out: &mut [u8]) -> usize
-    requires filter_len_bound { length filter.now ≤ 1024 }
-    requires placed_value { PlacedValue filter.now value }
-    requires room { Room (plain_value (value_of filter.now value)) out.old }
-    ensures { Puts (plain_value (value_of filter.now value)) out.old out.new result }
+// Writes the value of a test in its plain spelling, and answers its length.
+pub fn write_value(test: &FilterTest<'_>, out: &mut [u8]) -> usize
+    requires { Room (plain_value test.now.value) out.old }
+    ensures { Puts (plain_value test.now.value) out.old out.new result }
 {
-    let start = value.start;
-    let end = value.end;
+    // not by `of_value`: of a closure that writes into what it captures nothing is known where it is called
+    let value = test.value();
     if value.escaped {
-        return write_decoded(&filter[start..end], out);
+        return write_decoded(value.bytes, out);
     }
-    write_plain(&filter[start..end], out)
+    write_plain(value.bytes, out)
 }

@@ -1,6 +1,6 @@
 -- Prepare, as the code comes to its answer and its cells.
 -- It is put together from the inside out, and no law takes an induction. `FillsText` says what the buffer has after the text, with a law for
--- each way in which the code leaves it (size, no filter, bytes behind it, too many tests, a fault, done); `Fills` says it after sheet and
+-- each way in which the code leaves it (size, no filter, not the whole text or too many tests, answered); `Fills` says it after sheet and
 -- text, whatever the room of the list. Where the code refuses sheet or text, that is the
 -- refusal (`text_refused`, `fill_sheet`). The room is tested last of all (`preparation_is`), which leaves the laws of the list: refused
 -- before, too short, or filled (`prepare_refused`, `prepare_short`, `prepare_done`).
@@ -10,18 +10,19 @@ use Prim.Native.Nat.{ℕ, ◌+◌, ◌-◌, ◌≤◌, ◌<◌}
 use native.Mathlib.Omega.{arith}
 use mathlib.Core.Path.{◌≡◌, refl, sym, ap, subst, ◌∙◌}
 use mathlib.Core.Option.{none, some}
+use mathlib.Core.Bool.{cond, ◌&&◌}
+use lib.Dec.{eqb, leb}
+use Rattle.std.specs.Result.{result_and}
 use mathlib.Core.List.{List, ◌++◌}
 use lib.ListN.{length, take, drop}
 use lib.Seq.{length-take-le}
-use borrow.Author.Tests.{eq-eqb, ne_eqb, lt-ltb, le-leb, lt-leb}
-use Rattle.base.specs.Runs.{RunEnd}
+use borrow.Author.Tests.{le-leb, lt-leb}
 use Rattle.base.specs.Parts.{part}
 use Rattle.sheet.specs.Sheet.{Parameter, parameters_of, read_sheet}
 use Rattle.syntax.specs.Tree.{Tree, tests_of}
-use Rattle.syntax.specs.Scan.{is_space}
+use Rattle.syntax.specs.Scan.{skip_at}
 use Rattle.syntax.specs.Grammar.{deepest, most_tests}
 use Rattle.syntax.specs.Reader.{parsed, filter_at, whole, read}
-use Rattle.syntax.proofs.Whole.{whole_trails, whole_many, whole_few}
 use Rattle.place.specs.Machine.{failure}
 use Rattle.judge.specs.Faults.{first_fault}
 use Rattle.filter.specs.declared.Summary.{Summary}
@@ -37,16 +38,13 @@ use Rattle.refusal.specs.declared.Reason.{Reason}
 use Rattle.refusal.specs.declared.Refusal.{Refusal}
 use Rattle.refusal.specs.Answers.{Answer, count, refused, number_of, refusal_answer, counted_answer}
 use Rattle.refusal.specs.Steps.{Step, found, stop, refusal_step, ◌>>=◌, answer}
-use Rattle.answer.specs.Operations.{accept_filter, decision_step, tests_step, sheet_step, accept_sheet, Inputs, accept_inputs, written}
+use Rattle.answer.specs.Operations.{accept_filter, decision_step, tests_step, accept_sheet, Inputs, accept_inputs, written}
 use Rattle.answer.specs.Passing.{summary_answer}
-use Rattle.answer.specs.Preparing.{row_cells, accept_cells, preparation, prepare_answer, prepare_cells, filled_step, text_rows, FillsText, Fills, Prepares}
-use Rattle.answer.proofs.Inputs.{text_read}
+use Rattle.answer.specs.Preparing.{accept_size, row_cells, accept_cells, preparation, prepare_answer, prepare_cells, filled_step, text_rows, FillsText, Fills, Prepares}
+use Rattle.answer.proofs.Inputs.{text_read, size_refused, size_short}
+use Rattle.checking.proofs.Checking.{whole_few, whole_none}
 
 -- ---- refusals
-
-pub failure-prepared : (xs : List ℕ) (r : Refusal) → r ≡ failure deepest most_tests xs → counted_answer (Err r) ≡ refusal_answer (failure deepest most_tests xs)
-unfolding counted_answer
-failure-prepared xs r e = ap refusal_answer e
 
 refused_step : (r : Result ℕ Refusal) (buffer : List ℕ) (n p : ℕ) → counted_answer r ≡ refused n p → filled_step r buffer ≡ stop n p
 unfolding counted_answer refusal_answer
@@ -70,15 +68,9 @@ module _ (ps : List Parameter) (xs : List ℕ) (r : Result ℕ Refusal) (buffer 
   text_refused : (n p : ℕ) → counted_answer r ≡ refused n p → text_rows ps xs ≡ stop n p → FillsText ps xs r buffer
   text_refused n p e s = record { rows = refused_step r buffer n p e ∙ sym s; room = λ k i. absurd (refused_room r n p e k i) }
 
-  pub fill_empty : length xs ≡ 0 → counted_answer r ≡ refused (number_of Reason.FilterSize) 0 → FillsText ps xs r buffer
-  unfolding text_rows accept_filter
-  fill_empty z e = text_refused 10 0 e (rw (eq-eqb (length xs) 0 z))
-
-  pub fill_long : 1024 < length xs → counted_answer r ≡ refused (number_of Reason.FilterSize) 0 → FillsText ps xs r buffer
-  unfolding text_rows accept_filter
-  fill_long l e =
-      let n : length xs ≡ 0 → ⊥ = λ z. omega arith in
-      text_refused 10 0 e (rw (ne_eqb (length xs) 0 n, lt-ltb 1024 (length xs) l))
+  pub fill_size : (x : Refusal) → r ≡ Err x → accept_size xs ≡ refusal_step x → FillsText ps xs r buffer
+  unfolding text_rows
+  fill_size x h e = text_refused (number_of x.reason) x.place (ap counted_answer h ∙ refused_counted x) (rw (size_refused xs x e))
 
 -- check's answer to a text that is a filter tells whether one of its tests is refused
 none_refused : (s : Summary) (c : Result ℕ Refusal) (n : ℕ) → counted_answer c ≡ summary_answer s → c ≡ Ok n → decision_step s.first ≡ found tt
@@ -104,21 +96,30 @@ one_refused s c r e i =
 
 -- ---- the text
 
-pub fill_room : (xs rows : List ℕ) (spot : Spot) → spot ≡ top_spot xs → length xs ≤ 1024 → length rows ≡ 1024 → Room xs rows 0 spot.at
-fill_room xs rows spot s short size = record { short = short; size = size; low = omega arith; within = top_within xs spot s }
+module _ (ps : List Parameter) (ys xs : List ℕ) (i : (xs ≡ ys) × (accept_size ys ≡ found tt)) where
+  sized : accept_size xs ≡ found tt
+  sized = rw i.0 i.1
 
-module _ (ps : List Parameter) (xs : List ℕ) (n : length xs ≡ 0 → ⊥) (l : length xs ≤ 1024) where
-  no_tree : (r : Result ℕ Refusal) (buffer : List ℕ) → read xs ≡ none → counted_answer r ≡ refusal_answer (failure deepest most_tests xs) → FillsText ps xs r buffer
-  unfolding text_rows refusal_answer
-  no_tree r buffer e h =
-      text_refused ps xs r buffer (number_of (failure deepest most_tests xs).reason) (failure deepest most_tests xs).place h (rw (text_read xs n l none e))
+  short_is : length xs ≤ 1024
+  short_is = size_short xs sized
+
+  pub text_room : (rows : List ℕ) (spot : Spot) → spot ≡ top_spot xs → length rows ≡ 1024 → Room xs rows 0 spot.at
+  text_room rows spot s size = record { short = short_is; size = size; low = omega arith; within = top_within xs spot s }
+
+  given : {r : Result ℕ Refusal} {buffer : List ℕ} → FillsText ps xs r buffer → FillsText ps ys r buffer
+  given {r} {buffer} f = subst (λ (y : List ℕ). FillsText ps y r buffer) i.0 f
+
+  no_tree : (x : Refusal) (buffer : List ℕ) → read xs ≡ none → x ≡ failure deepest most_tests xs → FillsText ps ys (Err x) buffer
+  unfolding text_rows
+  no_tree x buffer e h =
+      given (text_refused ps xs (Err x) buffer (number_of x.reason) x.place (refused_counted x) (rw (text_read xs sized none e, h)))
 
   module _ (spot : Spot) (s : spot ≡ top_spot xs) (v : Option Written) (before after : List ℕ) (w : Wrote ps spot.bundle xs 0 (filter_at spot.levels xs spot.close spot.at) v before after) where
     at_top : Wrote ps 0 xs 0 (filter_at spot.levels xs spot.close spot.at) v before after
     at_top = subst (λ (c : ℕ). Wrote ps c xs 0 (filter_at spot.levels xs spot.close spot.at) v before after) (top-bundle xs spot s) w
 
-    pub fill_nothing : (r : Result ℕ Refusal) → v ≡ None → counted_answer r ≡ refusal_answer (failure deepest most_tests xs) → FillsText ps xs r after
-    fill_nothing r h = no_tree r after (top_read xs spot s ∙ ap (whole xs) (writing.was_none ps 0 xs 0 at_top h))
+    pub fill_nothing : (x : Refusal) → v ≡ None → x ≡ failure deepest most_tests ys → FillsText ps ys (Err x) after
+    fill_nothing x h f = no_tree x after (top_read xs spot s ∙ ap (whole xs) (writing.was_none ps 0 xs 0 at_top h)) (f ∙ ap (failure deepest most_tests) (sym i.0))
 
     module _ (got : Written) (h : v ≡ Some got) where
       takes : writing.Takes ps 0 xs 0 spot.close spot.levels spot.at v before after got
@@ -127,32 +128,31 @@ module _ (ps : List Parameter) (xs : List ℕ) (n : length xs ≡ 0 → ⊥) (l 
       pub fill_within : got.end ≤ length xs
       fill_within = takes.within
 
-      module _ (behind : ℕ) (t : RunEnd is_space xs got.end behind) where
+      module _ (z : Result ⊤ Refusal) (g : z ≡ cond (eqb (skip_at xs got.end) (length xs) && leb got.outcome.summary.tests most_tests) (Ok tt) (Err (failure deepest most_tests xs))) where
         was : writing.Was ps 0 xs 0 (filter_at spot.levels xs spot.close spot.at) got.end got.outcome before after
         was = writing.was ps 0 xs 0 got.end got.outcome at_top h
 
-        read_whole : read xs ≡ whole xs (parsed got.end was.tree)
-        read_whole = top_read xs spot s ∙ ap (whole xs) was.read
-
-        pub fill_trails : (r : Result ℕ Refusal) → (behind ≡ length xs → ⊥) → counted_answer r ≡ refusal_answer (failure deepest most_tests xs) → FillsText ps xs r after
-        fill_trails r k = no_tree r after (read_whole ∙ whole_trails xs got.end behind t was.tree k)
+        text_read_whole : read xs ≡ whole xs (parsed got.end was.tree)
+        text_read_whole = top_read xs spot s ∙ ap (whole xs) was.read
 
         tests_are : got.outcome.summary.tests ≡ length (tests_of was.tree)
         tests_are = ap (λ (o : Outcome). o.summary.tests) was.value
 
-        pub fill_many : (r : Result ℕ Refusal) → behind ≡ length xs → 32 < got.outcome.summary.tests → counted_answer r ≡ refusal_answer (failure deepest most_tests xs) → FillsText ps xs r after
-        fill_many r k m = no_tree r after (read_whole ∙ whole_many xs got.end behind t was.tree k (omega (arith, tests_are)))
+        pub fill_unread : (x : Refusal) → z ≡ Err x → FillsText ps ys (Err x) after
+        fill_unread x j =
+            let none_is = whole_none xs got.end got.outcome.summary.tests was.tree tests_are z g x j in
+            no_tree x after (text_read_whole ∙ none_is.0) none_is.1
 
         -- the text is a filter: its tests decide
-        module _ (k : behind ≡ length xs) (m : got.outcome.summary.tests ≤ 32) where
+        module _ (j : z ≡ Ok tt) where
           rows_by : text_rows ps xs ≡ (decision_step got.outcome.summary.first >>= λ u. found (row_cells ps xs was.tree))
           unfolding text_rows tests_step
           rows_by =
-              let r : accept_filter xs ≡ found was.tree = text_read xs n l (some was.tree) (read_whole ∙ whole_few xs got.end behind t was.tree k (omega (arith, tests_are))) in
+              let r : accept_filter xs ≡ found was.tree = text_read xs sized (some was.tree) (text_read_whole ∙ whole_few xs got.end got.outcome.summary.tests was.tree tests_are z g j) in
               ap (λ (q : Step Tree). q >>= λ f. decision_step (first_fault ps 0 (tests_of f)) >>= λ u. found (row_cells ps xs f)) r
               ∙ ap (λ (o : Outcome). decision_step o.summary.first >>= λ u. found (row_cells ps xs was.tree)) (sym was.value)
 
-          pub fill_done : (c : Result ℕ Refusal) (n : ℕ) → counted_answer c ≡ summary_answer got.outcome.summary → c ≡ Ok n → length before ≡ 1024 → FillsText ps xs (Ok got.outcome.cells) after
+          fill_done : (c : Result ℕ Refusal) (n : ℕ) → counted_answer c ≡ summary_answer got.outcome.summary → c ≡ Ok n → length before ≡ 1024 → FillsText ps xs (Ok got.outcome.cells) after
           fill_done c n e i size =
               let clean : decision_step got.outcome.summary.first ≡ found tt = none_refused got.outcome.summary c n e i in
               let same : got.outcome.cells ≡ cell_count was.tree = ap (λ (o : Outcome). o.cells) was.value in
@@ -160,16 +160,20 @@ module _ (ps : List Parameter) (xs : List ℕ) (n : length xs ≡ 0 → ⊥) (l 
               let cells : take got.outcome.cells after ≡ row_cells ps xs was.tree = ap (λ (x : ℕ). take x after) at_first ∙ was.cells in
               record {
                 rows = ap found cells ∙ sym (rows_by ∙ ap (λ (q : Step (Unit {0})). q >>= λ u. found (row_cells ps xs was.tree)) clean);
-                room = λ j g. let x : got.outcome.cells ≡ j = cc in omega (arith, takes.cells_fit, takes.within, w.size, size);
+                room = λ j g. let x : got.outcome.cells ≡ j = cc in omega (arith, takes.cells_fit, takes.within, w.size, size, short_is);
               }
 
-          pub fill_fault : (c : Result ℕ Refusal) (r : Refusal) → counted_answer c ≡ summary_answer got.outcome.summary → c ≡ Err r → FillsText ps xs (Err r) after
+          fill_fault : (c : Result ℕ Refusal) (r : Refusal) → counted_answer c ≡ summary_answer got.outcome.summary → c ≡ Err r → FillsText ps xs (Err r) after
           fill_fault c r e i =
               let fault : decision_step got.outcome.summary.first ≡ refusal_step r = one_refused got.outcome.summary c r e i in
               record {
                 rows = sym (rows_by ∙ ap (λ (q : Step (Unit {0})). q >>= λ u. found (row_cells ps xs was.tree)) fault);
                 room = λ j g. let z : ◌≡◌ {A = ℕ} 0 1 = cc in absurd (omega arith);
               }
+
+          pub fill_answered : (c : Result ℕ Refusal) → counted_answer c ≡ summary_answer got.outcome.summary → length before ≡ 1024 → FillsText ps ys (result_and c (Ok got.outcome.cells)) after
+          fill_answered (Ok n) e size = given (fill_done (Ok n) n e refl size)
+          fill_answered (Err r) e size = given (fill_fault (Err r) r e refl)
 
 -- ---- the sheet
 

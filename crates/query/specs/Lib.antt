@@ -5,3 +5,4 @@ pub mod Lines
 pub mod Scan
 pub mod Met
 pub mod Rows
+pub mod Within

@@ -28,7 +28,7 @@ fn hex_byte(high: u8, low: u8) -> Option<u8>
     Some(h * 16 + l)
 }
 
-// The byte that stands encoded at a position; None for a bad %.
+// The byte that stands encoded at a position; None for a bad %. That it is within the text stays a clause, as in pieces.
 fn unit_at(raw: &[u8], at: usize) -> Option<DecodedByte>
     requires { at < length raw.now }
     ensures { result ≡ unit_at raw.now at }

@@ -2,10 +2,12 @@
 #![tactic(auto)]
 
 mod decode;
+mod kept;
 mod pair;
 mod pieces;
 mod query;
 
+pub use kept::KeptQuery;
 pub use query::{accept_query, no_rows};
 
 // A byte that a name or a value stands for, and where the text goes on.

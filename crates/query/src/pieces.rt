@@ -15,7 +15,8 @@ fn is_special(b: u8) -> bool
     }
 }
 
-// What stands at a position of a decoded value.
+// What stands at a position of a decoded value. That positions are within their text stays a clause: a type for one would hold the text too,
+// and be made anew at each mark.
 fn mark_at(s: &[u8], at: usize) -> Mark
     requires { at < length s.now }
     ensures { result ≡ mark_at s.now at }

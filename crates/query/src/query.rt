@@ -23,7 +23,7 @@ fn push(q: Rows, row: Row) -> Rows
 }
 
 // Keeps the alternatives of a decoded value, with the name that stands in the buffer from `name` up to `until`; their texts
-// are written from `start` on.
+// are written from `start` on. Of its parameters each is another place or list, which read_query has in hand.
 pub fn keep_pair(
     value: &[u8],
     at: usize,
@@ -83,7 +83,7 @@ pub fn no_rows() -> Rows
 }
 
 // Reads the pairs of a search string: a row for each alternative, over the bytes that are written into the buffer; or where
-// the first pair begins that is none.
+// the first pair begins that is none. The bound of 1,024 stays a clause: its one caller has just tested it.
 pub fn read_query(text: &[u8], bytes: &mut [u8]) -> Result<Rows, Refusal>
     requires text_len_bound { length text.now ≤ 1024 }
     requires text_in_bounds { length text.now ≤ length bytes.old }
@@ -94,7 +94,7 @@ pub fn read_query(text: &[u8], bytes: &mut [u8]) -> Result<Rows, Refusal>
     let mut at = 0;
     // fixed memory, for the longest value of the longest search string
     let mut value = [0u8; 1024];
-    // no split: a pair that is none is refused by its place in the text
+    // not `split`: a refusal names the position at which the bad pair begins
     loop {
         let end = base::first_from(text, at, b'&');
         let read = read_pair(&text[at..end], &mut bytes[used..], &mut value);

@@ -12,17 +12,10 @@ use Rattle.report.specs.declared.Verdicts.{Verdicts}
 use Rattle.report.specs.declared.plan.Plan.{Plan}
 use Rattle.refusal.specs.declared.Refusal.{Refusal}
 
-module _ (sheet text cards : List ℕ) (rows : List Tally) (p : Plan) (n m : ℕ) where
+module _ (sheet text cards : List ℕ) (rows : List Tally) (p : Plan) where
   -- each step that it has finds its row and its card
-  pub plan_ready : Plans sheet text cards (length rows) p → n ≡ p.rows → m ≡ p.steps → (k : ℕ) → k < m → Ready cards n k rows
-  plan_ready h e f k l = rw e (h.ready rows refl k (rw f at l))
+  pub plan_ready : Plans sheet text cards (length rows) p → (k : ℕ) → k < p.steps → Ready cards p.rows k rows
+  plan_ready h k l = h.ready rows refl k l
 
-  pub plan_reports : (r : Result Verdicts Refusal) (exit : List Tally) → Plans sheet text cards (length rows) p → n ≡ p.rows → m ≡ p.steps → exit ≡ stepped cards n m rows → r ≡ p.answer
-      → Reports sheet text cards rows r exit
-  plan_reports r exit h e f g a =
-      rw a
-      (record {
-        answers = h.answers;
-        tallies = g ∙ rw (e, f) (h.writes rows refl);
-        refuses = h.refuses;
-      })
+  pub plan_reports : (exit : List Tally) → Plans sheet text cards (length rows) p → exit ≡ stepped cards p.rows p.steps rows → Reports sheet text cards rows p.answer exit
+  plan_reports exit h g = record { answers = h.answers; tallies = g ∙ h.writes rows refl; refuses = h.refuses }

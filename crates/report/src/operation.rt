@@ -1,7 +1,7 @@
 // The report, with all that is promised of it. A slice holds bytes, so that nothing is asked of the caller.
 ghost use Rattle.report.specs.Operations.{Reports};
 
-use crate::plan::{answer, plan_of, rows_of, steps_of};
+use crate::plan::plan_of;
 use crate::tallies::raise_all;
 use crate::{Tally, Verdicts};
 use refusal::Refusal;
@@ -16,9 +16,7 @@ pub fn report(
 ) -> Result<Verdicts, Refusal>
     ensures { Reports sheet.now filter.now cards.now rows.old result rows.new }
 {
-    let p = plan_of(sheet, filter, cards, rows.len());
-    let n = rows_of(p);
-    let steps = steps_of(p);
-    raise_all(rows, cards, n, steps);
-    answer(p)
+    let plan = plan_of(sheet, filter, cards, rows.len());
+    raise_all(rows, cards, plan.rows, plan.steps);
+    plan.answer
 }

@@ -7,6 +7,7 @@ use refusal::{Reason, Refusal};
 use sheet::Sheet;
 
 // How many rows there are, how many steps raise them (none on a refusal), and what the report answers.
+// No Result of rows and steps: that a refusal takes no step is a promise that a wrong program breaks (`refusal_takes_a_step`).
 #[derive(Clone, Copy)]
 pub struct Plan {
     pub rows: usize,
@@ -32,9 +33,10 @@ pub fn plan_of(sheet: &[u8], filter: &[u8], cards: &[u8], room: usize) -> Plan
 {
     let mut list = [0u32; 128];
     let selected = sirophan::select(sheet, filter, cards, &mut list);
+    // no question mark: a refusal is a plan too
     match selected {
         Ok(yes) => {
-            let n = Sheet { bytes: sheet }.parameter_count() as usize;
+            let n = usize::from(Sheet { bytes: sheet }.parameter_count());
             if n > room {
                 return refuse(Refusal {
                     reason: Reason::ShortRows,
@@ -53,25 +55,4 @@ pub fn plan_of(sheet: &[u8], filter: &[u8], cards: &[u8], room: usize) -> Plan
         }
         Err(refusal) => refuse(refusal),
     }
-}
-
-// How many rows the plan has.
-pub fn rows_of(p: Plan) -> usize
-    ensures { result ≡ p.rows }
-{
-    p.rows
-}
-
-// How many steps.
-pub fn steps_of(p: Plan) -> usize
-    ensures { result ≡ p.steps }
-{
-    p.steps
-}
-
-// What it answers.
-pub fn answer(p: Plan) -> Result<Verdicts, Refusal>
-    ensures { result ≡ p.answer }
-{
-    p.answer
 }

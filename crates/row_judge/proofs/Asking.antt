@@ -1,6 +1,5 @@
 -- The parameters that rows ask about are kept: those of the rows before i are, and so they stay. What was opened and read is then ready.
 -- Assumes nothing.
-use Rattle.std.specs.Prelude.{Option}
 use Prim.Native.Nat.{ℕ, ◌+◌, ◌≤◌, ◌<◌}
 use native.Mathlib.Omega.{arith}
 use mathlib.Core.Path.{◌≡◌, refl, ap, sym, ◌∙◌, subst}
@@ -12,14 +11,11 @@ use borrow.Author.Tests.{eqb-true, eqb-false}
 use Rattle.rows.specs.Cells.{row_of}
 use Rattle.rows.specs.declared.Probe.{Probe}
 use Rattle.rows.specs.declared.Row.{Row}
-use Rattle.card.specs.Card.{entries_of, read_card}
-use Rattle.judge.specs.Sets.{Chosen, chosen_of, conforms_to}
-use Rattle.card_reader.specs.Lists.{IsKept, KeepsCard, BeginsAlike, ReadsCard}
+use Rattle.card.specs.Card.{entries_of}
+use Rattle.judge.specs.Sets.{conforms_to}
+use Rattle.card_reader.specs.Lists.{IsKept, BeginsAlike, ReadsCard}
 use Rattle.card_reader.specs.declared.Kept.{Kept}
 use Rattle.card_reader.specs.Lending.{Lends, Keeps}
-use Rattle.row_opener.specs.Opening.{Opens}
-use Rattle.row_opener.specs.declared.Opened.{Opened}
-use Rattle.row_judge.specs.Saying.{rows_say, Whole, Ready}
 use Rattle.row_judge.specs.Asking.{KeepsTests, LentFor}
 
 pub record KeptTo (rows : List ℕ) (before kept : Kept) (i : ℕ) : Type 0 where
@@ -69,27 +65,8 @@ lent-on kinds rows before kept l a =
       all_kept = record { each = λ j z p y. ap (λ (q : List Bool). get_or q p.index false) a.asked_are ∙ l.all_kept.each j z p y };
     }
 
--- rows that were opened are ready for a card of which all is kept
-pub lent-ready : (kinds xs rows card : List ℕ) (kept : Kept) → LentFor kinds rows kept → (values : List (Option Opened)) → length xs ≤ 1024 → Whole rows → Opens kinds xs rows values (length rows)
-    → KeepsCard card kept → Ready xs rows values card kept
-lent-ready kinds xs rows card kept l values h e o k =
-    record {
-      short = h;
-      whole = e;
-      opens = subst (λ (n : List ℕ). Opens n xs rows values (length rows)) (sym l.kinds_are) o;
-      keeps = k;
-      all_kept = l.all_kept;
-    }
-
 pub read_conforming : (kinds card : List ℕ) (before kept : Kept) (r : Bool) → ReadsCard kinds card before kept r → conforms_to kinds (entries_of card) ≡ true → r ≡ true
 read_conforming kinds card before kept r w h = w.answer ∙ h
 
-module _ (kinds xs rows card : List ℕ) (before kept : Kept) (r : Bool) (l : LentFor kinds rows before) (w : ReadsCard kinds card before kept r) where
-  read-lent : LentFor kinds rows kept
-  read-lent = lent-on kinds rows before kept l w.begins
-
-  pub read-ready : (values : List (Option Opened)) → length xs ≤ 1024 → Whole rows → Opens kinds xs rows values (length rows) → r ≡ true → Ready xs rows values card kept
-  read-ready values h e o y = lent-ready kinds xs rows card kept read-lent values h e o (w.keeps y)
-
-  pub read-says : (k : Chosen) (t : Bool) → t ≡ rows_say kept.kinds xs (chosen_of k (entries_of card)) rows → t ≡ rows_say kinds xs (chosen_of k (entries_of card)) rows
-  read-says k t e = e ∙ ap (λ (n : List ℕ). rows_say n xs (chosen_of k (entries_of card)) rows) read-lent.kinds_are
+pub read-lent : (kinds rows card : List ℕ) (before kept : Kept) (r : Bool) → LentFor kinds rows before → ReadsCard kinds card before kept r → LentFor kinds rows kept
+read-lent kinds rows card before kept r l w = lent-on kinds rows before kept l w.begins

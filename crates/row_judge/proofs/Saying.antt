@@ -4,7 +4,7 @@
 -- verdict of a test after brackets, by the set of the entries that are kept, is found from whether there is an entry that counts and of
 -- whose occurrence the rows in the brackets say yes (`each_is`, from `entry_is`, by induction on the entries).
 -- Assumes nothing.
-use Rattle.std.specs.Prelude.{Option, Some, None}
+use Rattle.std.specs.Prelude.{Option, Some, None, is_some}
 use Prim.Native.Nat.{ℕ, zero, suc, ◌+◌, ◌-◌, ◌/◌, ◌≤◌, ◌<◌}
 use native.Mathlib.Omega.{arith}
 use mathlib.Core.Path.{◌≡◌, refl, sym, ap, ap₂, subst, ◌∙◌}
@@ -12,14 +12,14 @@ use mathlib.Core.Bool.{Bool, true, false, cond, not, ◌&&◌, ◌||◌}
 use mathlib.Core.Option as maybe
 use mathlib.Core.Option.{none, some, none-ne-some, some-injective}
 use mathlib.Core.List.{List, [], ◌∷◌, ◌++◌, append-nil, append_assoc}
-use lib.Dec.{eqb, ltb}
+use lib.Dec.{eqb}
 use lib.ListN.{length, get_or, take, drop, length-take, length-drop}
-use lib.Seq.{get_or-take, get_or-drop, take_all, take-append_seam, drop-cons, drop-drop, drop-length}
+use lib.Seq.{length-take-le, get_or-take, get_or-drop, take_all, take-append_seam, drop-cons, drop-drop, drop-length}
 use Rattle.std.proofs.lemmas.Option.{none-some, same_Some}
 use Rattle.base.specs.Parts.{part}
 use Rattle.base.proofs.Parts.{part_length}
 use Rattle.base.proofs.Tests.{and_true, and_false, both_ways}
-use Rattle.card.specs.Card.{Entry, entries_of, read_card}
+use Rattle.card.specs.Card.{Entry, entries_of}
 use Rattle.syntax.specs.Placed.{PlacedValue}
 use Rattle.syntax.specs.declared.Connective.{Connective}
 use Rattle.syntax.specs.Scan.{value_at, contents, decode, Decoded}
@@ -41,14 +41,15 @@ use Rattle.rows.specs.declared.Probe.{Probe}
 use Rattle.rows.specs.declared.Row.{Row}
 use Rattle.rows.proofs.Cells.{row_test, row_bracket, row_not, row_connect, test_index, cell_probe}
 use Rattle.rows.proofs.Stating.{stated-encode, stated_are}
-use Rattle.card_reader.specs.Lists.{Lent, none_kept, no_entry, IsKept, KeepsCard}
+use Rattle.card_reader.specs.Lists.{none_kept, no_entry, IsKept, KeepsCard}
 use Rattle.card_reader.specs.declared.Kept.{Kept}
-use Rattle.card_reader.specs.Listed.{entry_counts, some_before, OnChain, FirstFrom}
-use Rattle.card_reader.proofs.Chains.{before_cons, chain_begins, chain_all, chain_holds, chain_room, chain_less, chain_on, chain_step, some_first}
-use Rattle.row_opener.specs.Opening.{readings_in, opened_value, opened_by, opened_for, opened_in, opened_row, value_of, Known}
+use Rattle.card_reader.specs.Listed.{counted, entry_counts, some_before, OnChain, FirstFrom}
+use Rattle.card_reader.proofs.Chains.{before_cons, chain_begins, chain_all, chain_holds, chain_room, chain_less, chain_on, chain_step, first_some}
+use Rattle.row_judge.specs.Asking.{LentFor}
+use Rattle.row_opener.specs.Opening.{Opens, readings_in, opened_value, opened_by, opened_for, opened_in, opened_row, value_of, Known}
 use Rattle.row_opener.specs.declared.Opened.{Opened}
 use Rattle.row_opener.proofs.Opening.{opens_second, opened_reads}
-use Rattle.row_judge.specs.Saying.{probe_says_by, probe_says, expression_says, stated_says, rows_say, Whole, AllKept, Ready, Bracketed, decides, skipped, some_entry, occurrence_says, probe_says_each_by, probe_says_each, bracket_says}
+use Rattle.row_judge.specs.Saying.{probe_says_by, probe_says, expression_says, stated_says, rows_say, Whole, AllKept, Bracketed, decides, skipped, some_entry, occurrence_says, probe_says_each_by, probe_says_each, bracket_says}
 
 -- ---- entry by entry is by the set of the entries that are kept
 
@@ -146,23 +147,23 @@ module _ (says : ℕ → Bool) (k : Chosen) (i : ℕ) (m : Meaning) (v card : Li
             ∙ entries_before says k i m v (entries_of card);
       }
 
-  module _ (answer : Bool) (n : ℕ) (inv : Choosing says k i m v card kept answer n) (l : 0 < n) where
+  module _ (answer : Bool) (n : ℕ) (inv : Choosing says k i m v card kept answer (n + 1)) where
     h : KeepsCard card kept
     h = inv.keeps
 
-    pub choosing_room : n - 1 < 64
-    choosing_room = chain_room card kept h i n inv.on l
+    pub choosing_room : n < 64
+    choosing_room = chain_room card kept h i n inv.on
 
-    module _ (o : ℕ) (oe : o ≡ (get_or kept.entries (n - 1) none_kept).occurrence) (r : Bool) (y : r ≡ says o) where
-      here_is : says_too says k m v (get_or (entries_of card) (n - 1) no_entry) ≡ r
+    module _ (o : ℕ) (oe : o ≡ (get_or kept.entries n none_kept).occurrence) (r : Bool) (y : r ≡ says o) where
+      here_is : says_too says k m v (get_or (entries_of card) n no_entry) ≡ r
       here_is =
-          let own : o ≡ (get_or (entries_of card) (n - 1) no_entry).occurrence = oe ∙ (chain_holds card kept h i n inv.on l).occurrence in
-          let there : entry_counts k m v (get_or (entries_of card) (n - 1) no_entry) ≡ true = inv.counts_here (n - 1) (omega (arith, l)) in
-          ap (λ (b : Bool). b && says (get_or (entries_of card) (n - 1) no_entry).occurrence) there ∙ sym (y ∙ ap says own)
+          let own : o ≡ (get_or (entries_of card) n no_entry).occurrence = oe ∙ (chain_holds card kept h i n inv.on).occurrence in
+          let there : entry_counts k m v (get_or (entries_of card) n no_entry) ≡ true = inv.counts_here n refl in
+          ap (λ (b : Bool). b && says (get_or (entries_of card) n no_entry).occurrence) there ∙ sym (y ∙ ap says own)
 
-      module _ (b : ℕ) (be : b ≡ (get_or kept.entries (n - 1) none_kept).behind) where
+      module _ (b : ℕ) (be : b ≡ (get_or kept.entries n none_kept).behind) where
         step : answer ≡ (r || some_before (says_too says k m v) i (entries_of card) b)
-        step = sym inv.rest ∙ chain_step card kept h i n inv.on l b be (says_too says k m v) ∙ ap (λ (x : Bool). x || some_before (says_too says k m v) i (entries_of card) b) here_is
+        step = sym inv.rest ∙ chain_step card kept h i n inv.on b be (says_too says k m v) ∙ ap (λ (x : Bool). x || some_before (says_too says k m v) i (entries_of card) b) here_is
 
         pub choosing_next : (q : ℕ) → FirstFrom (entry_counts k m v) card kept i b q → r ≡ false → Choosing says k i m v card kept answer q
         choosing_next q f z =
@@ -175,12 +176,12 @@ module _ (says : ℕ → Bool) (k : Chosen) (i : ℕ) (m : Meaning) (v card : Li
 
       pub choosing_yes : r ≡ true → true ≡ answer
       choosing_yes z =
-          let b : ℕ = (get_or kept.entries (n - 1) none_kept).behind in
+          let b : ℕ = (get_or kept.entries n none_kept).behind in
           sym (step b refl ∙ ap (λ (x : Bool). x || some_before (says_too says k m v) i (entries_of card) b) z)
 
-  pub choosing_end : (answer : Bool) (n : ℕ) → Choosing says k i m v card kept answer n → n ≤ 0 → false ≡ answer
+  pub choosing_end : (answer : Bool) → Choosing says k i m v card kept answer 0 → false ≡ answer
   unfolding some_before
-  choosing_end answer n inv z = let e : n ≡ 0 = omega (arith, z) in rw e at inv.rest
+  choosing_end answer inv = inv.rest
 
 -- what the rows behind a test's say of an occurrence
 unfoldable pub in_brackets : List ℕ → List ℕ → List ℕ → List Entry → ℕ → Bool
@@ -264,35 +265,31 @@ module _ (kinds xs : List ℕ) (p : Probe) (c : Option Opened) (e : c ≡ opened
 first-same : (k : Chosen) (m : Meaning) (card : List ℕ) (kept : Kept) (i from r : ℕ) {v w : List ℕ} → v ≡ w → FirstFrom (entry_counts k m v) card kept i from r → FirstFrom (entry_counts k m w) card kept i from r
 first-same k m card kept i from r e f = subst (λ (x : List ℕ). FirstFrom (entry_counts k m x) card kept i from r) e f
 
-module _ (raw out : List ℕ) (n : ℕ) (d : Decoded raw out n) where
-  pub decoded-read : (m : Meaning) (w : Readings) → w ≡ readings_for m (decode false raw) → w ≡ readings_for m (take n out)
-  decoded-read m w e = e ∙ ap (readings_for m) (sym d.is)
-
-  pub decoded-first : (k : Chosen) (m : Meaning) (card : List ℕ) (kept : Kept) (i from r : ℕ) → FirstFrom (entry_counts k m (take n out)) card kept i from r → FirstFrom (entry_counts k m (decode false raw)) card kept i from r
-  decoded-first k m card kept i from r f = first-same k m card kept i from r d.is f
-
 module _ (xs : List ℕ) (m : Meaning) (o : Opened) (w : Known xs m o) where
-  escaped-value : o.escaped ≡ true → decode false (part xs o.start o.end) ≡ value_of xs o
-  unfolding value_of
-  escaped-value h = ap (λ (b : Bool). contents b (part xs o.start o.end)) (sym h)
-
-  plain_value_lem : o.escaped ≡ false → part xs o.start o.end ≡ value_of xs o
-  unfolding value_of
-  plain_value_lem h = ap (λ (b : Bool). contents b (part xs o.start o.end)) (sym h)
-
   module _ (a b : ℕ) (s : a ≡ o.start) (t : b ≡ o.end) where
-    pub escaped-read : (r : Readings) → r ≡ readings_in o.reading → o.escaped ≡ true → r ≡ readings_for m (decode false (part xs a b))
-    escaped-read r q h = q ∙ w.read ∙ ap (readings_for m) (sym (escaped-value h) ∙ rw (s, t))
+    pub part_order : a ≤ b
+    part_order = omega (arith, s, t, w.order)
 
-    pub plain-read : (r : Readings) → r ≡ readings_in o.reading → o.escaped ≡ false → r ≡ readings_for m (part xs a b)
-    plain-read r q h = q ∙ w.read ∙ ap (readings_for m) (sym (plain_value_lem h) ∙ rw (s, t))
+    pub part_within : b ≤ length xs
+    part_within = omega (arith, t, w.within)
 
-    module _ (k : Chosen) (card : List ℕ) (kept : Kept) (i from r : ℕ) where
-      pub escaped-first : o.escaped ≡ true → FirstFrom (entry_counts k m (decode false (part xs a b))) card kept i from r → FirstFrom (entry_counts k m (value_of xs o)) card kept i from r
-      escaped-first h f = first-same k m card kept i from r (rw (s, t) (escaped-value h)) f
+    part_is : (raw : List ℕ) → raw ≡ part xs a b → raw ≡ part xs o.start o.end
+    part_is raw q = q ∙ rw (s, t)
 
-      pub plain-first : o.escaped ≡ false → FirstFrom (entry_counts k m (part xs a b)) card kept i from r → FirstFrom (entry_counts k m (value_of xs o)) card kept i from r
-      plain-first h f = first-same k m card kept i from r (rw (s, t) (plain_value_lem h)) f
+    pub plain-is : (raw : List ℕ) → raw ≡ part xs a b → o.escaped ≡ false → raw ≡ value_of xs o
+    unfolding value_of
+    plain-is raw q h = part_is raw q ∙ ap (λ (b : Bool). contents b (part xs o.start o.end)) (sym h)
+
+    pub escaped-is : (raw : List ℕ) → raw ≡ part xs a b → o.escaped ≡ true → (out : List ℕ) (n : ℕ) → Decoded raw out n → take n out ≡ value_of xs o
+    unfolding value_of
+    escaped-is raw q h out n d = d.is ∙ ap (decode false) (part_is raw q) ∙ ap (λ (b : Bool). contents b (part xs o.start o.end)) (sym h)
+
+  module _ (v : List ℕ) (e : v ≡ value_of xs o) where
+    pub value_reads : (r : Readings) → r ≡ readings_in o.reading → r ≡ readings_for m v
+    value_reads r q = q ∙ w.read ∙ ap (readings_for m) (sym e)
+
+    pub value_first : (k : Chosen) (card : List ℕ) (kept : Kept) (i from r : ℕ) → FirstFrom (entry_counts k m v) card kept i from r → FirstFrom (entry_counts k m (value_of xs o)) card kept i from r
+    value_first k card kept i from r f = first-same k m card kept i from r e f
 
 -- ---- a test without brackets, by the lists of the card
 
@@ -300,12 +297,12 @@ module _ (card : List ℕ) (kept : Kept) (h : KeepsCard card kept) (i : ℕ) (l 
   pub test_chain : (from : ℕ) → from ≡ get_or kept.last i 0 → OnChain card kept i from
   test_chain from e = chain_begins card kept h i from l z e
 
-  pub test_opened : (xs : List ℕ) (p : Probe) (c : Option Opened) (o : Opened) → c ≡ opened_for kept.kinds xs p → c ≡ Some o → p.index ≡ i → (k : Chosen) (m : Meaning) (kind from first : ℕ) (r : Bool) → kind ≡ get_or kept.kinds i 0
-      → m ≡ meaning_of p.operator kind → from ≡ get_or kept.last i 0 → FirstFrom (entry_counts k m (value_of xs o)) card kept i from first → r ≡ some_says m o.truth (ltb 0 first)
+  pub test_opened : (xs : List ℕ) (p : Probe) (c : Option Opened) (o : Opened) → c ≡ opened_for kept.kinds xs p → c ≡ Some o → p.index ≡ i → (k : Chosen) (m : Meaning) (kind from : ℕ) (first : Option ℕ) (r : Bool) → kind ≡ get_or kept.kinds i 0
+      → m ≡ meaning_of p.operator kind → from ≡ get_or kept.last i 0 → FirstFrom (entry_counts k m (value_of xs o)) card kept i from (counted first) → r ≡ some_says m o.truth (is_some first)
       → r ≡ probe_says kept.kinds xs p (chosen_of k (entries_of card))
   test_opened xs p c o e f same k m kind from first r ke me fe d y =
-      plain-opened kept.kinds xs p c e o f (chosen_of k (entries_of card)) m kind (ltb 0 first) r (ke ∙ ap (λ (n : ℕ). get_or kept.kinds n 0) (sym same)) me
-      (some_first card kept h i l z k m (value_of xs o) from first fe d ∙ ap (λ (n : ℕ). some_value (text_counts m (value_of xs o)) (values_at n (chosen_of k (entries_of card)))) (sym same)) y
+      plain-opened kept.kinds xs p c e o f (chosen_of k (entries_of card)) m kind (is_some first) r (ke ∙ ap (λ (n : ℕ). get_or kept.kinds n 0) (sym same)) me
+      (first_some card kept h i l z k m (value_of xs o) from fe first d ∙ ap (λ (n : ℕ). some_value (text_counts m (value_of xs o)) (values_at n (chosen_of k (entries_of card)))) (sym same)) y
 
 -- ---- rows, from left to right with a verdict in hand
 
@@ -419,6 +416,22 @@ module _ (kinds xs : List ℕ) (k : Chosen) (all : List Entry) where
       by_row (Row.Connect o m) i g = absurd (none-ne-some _ g)
       by_row Row.Unknown i g = absurd (none-ne-some _ g)
 
+-- rows that were opened by the kinds that are kept, and whose parameters are kept
+pub record Ready (xs rows : List ℕ) (values : List (Option Opened)) (kept : Kept) : Type 0 where
+  pub opens : Opens kept.kinds xs rows values (length rows)
+  pub all_kept : AllKept rows kept
+
+module _ (kinds xs rows cells : List ℕ) (same : cells ≡ rows) (kept : Kept) (l : LentFor kinds rows kept) where
+  pub ready_of : (values : List (Option Opened)) → Opens kinds xs rows values (length rows) → Ready xs cells values kept
+  ready_of values o =
+      record {
+        opens = subst (λ (n : List ℕ). Opens kept.kinds xs n values (length n)) (sym same) (subst (λ (n : List ℕ). Opens n xs rows values (length rows)) (sym l.kinds_are) o);
+        all_kept = subst (λ (n : List ℕ). AllKept n kept) (sym same) l.all_kept;
+      }
+
+  pub ready_says : (es : List Entry) (r : Bool) → r ≡ rows_say kept.kinds xs es cells → r ≡ rows_say kinds xs es rows
+  ready_says es r e = e ∙ ap₂ (λ (n m : List ℕ). rows_say n xs es m) l.kinds_are same
+
 -- the parameters that a part of the rows asks about
 kept_part : {rows : List ℕ} {kept : Kept} → AllKept rows kept → (m e : ℕ) → e ≤ length rows → AllKept (part rows m e) kept
 kept_part {rows} {kept} w m e h =
@@ -506,17 +519,15 @@ module _ (kinds xs rows : List ℕ) (k : Chosen) (all : List Entry) where
         pub part-size : length part_rows ≡ n + 1
         part-size = part_length rows (at + 1) (at + 1 + n + 1) bracket_room ∙ (omega arith)
 
-        pub bracket_ready : {values : List (Option Opened)} {card : List ℕ} {kept : Kept} → Ready xs rows values card kept
-            → Bracketed xs part_rows (take (length values - (at + 1)) (drop (at + 1) values)) card kept
+        pub bracket_ready : {values : List (Option Opened)} {kept : Kept} → Ready xs rows values kept
+            → Bracketed xs part_rows (take (length values - (at + 1)) (drop (at + 1) values)) kept
         bracket_ready w =
             record {
-              short = w.short;
               some_row = omega (arith, part-size);
               test = brackets.probe;
               row = ap (λ (c : List ℕ). row_of (get_or c 0 0)) part_are ∙ brackets.row;
               whole = record { expression = brackets.expression; states = ap stated (inner_of brackets.first (take n brackets.rest) part_rows part_are) ∙ brackets.states };
               opens = opens_second w.opens (at + 1) (at + 1 + n + 1) (omega arith) bracket_room;
-              keeps = w.keeps;
               all_kept = kept_part w.all_kept (at + 1) (at + 1 + n + 1) bracket_room;
             }
 
@@ -527,9 +538,16 @@ module _ (kinds xs rows : List ℕ) (k : Chosen) (all : List Entry) where
             let says : u ≡ probe_says_each kinds xs (take n brackets.rest) brackets.probe k all = h ∙ ap₂ (λ (c : List ℕ) (p : Probe). probe_says_each kinds xs c p k all) (inner_of brackets.first (take n brackets.rest) part_rows part_are) probe_is in
             go_on (suc n) u (ap (tell kinds xs k all (suc n) u) brackets.are ∙ ap (λ (x : Bool). tell kinds xs k all n x brackets.rest) says ∙ brackets.goes) (at + 1 + n + 1) (omega arith)
 
+-- ---- the loop of a test after brackets
+
+-- what it keeps: n is an entry that counts, or 0, and the entries from it on decide
+pub record Brackets (xs rows card : List ℕ) (kept : Kept) (k : Chosen) (i : ℕ) (m : Meaning) (o : Opened) (n : ℕ) : Type 0 where
+  pub choosing : Choosing (in_brackets kept.kinds xs rows (entries_of card)) k i m (value_of xs o) card kept (some_entry (in_brackets kept.kinds xs rows (entries_of card)) k i m (value_of xs o) (entries_of card)) n
+  pub answers : (s r : Bool) → s ≡ some_entry (in_brackets kept.kinds xs rows (entries_of card)) k i m (value_of xs o) (entries_of card) → r ≡ some_says m o.truth s → r ≡ bracket_says kept.kinds xs rows k (entries_of card)
+
 -- ---- rows that are ready, and a test after brackets
 
-module _ {xs rows : List ℕ} {values : List (Option Opened)} {card : List ℕ} {kept : Kept} (w : Ready xs rows values card kept) (at : ℕ) (l : at < length rows) where
+module _ {xs rows : List ℕ} {values : List (Option Opened)} {kept : Kept} (w : Ready xs rows values kept) (at : ℕ) (l : at < length rows) where
   pub ready-value : at < length values
   ready-value = omega (arith, l, w.opens.room)
 
@@ -541,19 +559,15 @@ module _ {xs rows : List ℕ} {values : List (Option Opened)} {card : List ℕ} 
     pub ready_kept : IsKept kept p.index
     ready_kept = w.all_kept.each at l p (sym e ∙ j)
 
-module _ {xs rows : List ℕ} {values : List (Option Opened)} {card : List ℕ} {kept : Kept} (w : Bracketed xs rows values card kept) where
+module _ {xs rows : List ℕ} {values : List (Option Opened)} {kept : Kept} (w : Bracketed xs rows values kept) where
   pub bracketed_value : 0 < length values
   bracketed_value = omega (arith, w.some_row, w.opens.room)
 
-  pub bracketed_inner : Ready xs (take (length rows - 1) (drop 1 rows)) (take (length values - 1) (drop 1 values)) card kept
-  bracketed_inner =
-      record {
-        short = w.short;
-        whole = w.whole;
-        opens = opens_second w.opens 1 (length rows) w.some_row (omega arith);
-        keeps = w.keeps;
-        all_kept = kept_part w.all_kept 1 (length rows) (omega arith);
-      }
+  pub bracketed_opens : Opens kept.kinds xs (take (length rows - 1) (drop 1 rows)) (take (length values - 1) (drop 1 values)) (length (take (length rows - 1) (drop 1 rows)))
+  bracketed_opens = opens_second w.opens 1 (length rows) w.some_row (omega arith)
+
+  pub bracketed_lent : LentFor kept.kinds (take (length rows - 1) (drop 1 rows)) kept
+  bracketed_lent = record { kinds_are = refl; all_kept = kept_part w.all_kept 1 (length rows) (omega arith) }
 
   module _ (p : Probe) (i : p ≡ probe_of (get_or rows 0 0 / 8)) where
     test_is : w.test ≡ p
@@ -565,8 +579,8 @@ module _ {xs rows : List ℕ} {values : List (Option Opened)} {card : List ℕ} 
     bracketed_kept : IsKept kept p.index
     bracketed_kept = w.all_kept.each 0 (omega (arith, w.some_row)) p (w.row ∙ ap Row.Test test_is)
 
-    pub bracketed_chain : (from : ℕ) → from ≡ get_or kept.last p.index 0 → OnChain card kept p.index from
-    bracketed_chain from e = chain_begins card kept w.keeps p.index from bracketed_index bracketed_kept e
+    pub bracketed_chain : (card : List ℕ) → KeepsCard card kept → (from : ℕ) → from ≡ get_or kept.last p.index 0 → OnChain card kept p.index from
+    bracketed_chain card keeps from e = chain_begins card kept keeps p.index from bracketed_index bracketed_kept e
 
     module _ (c : Option Opened) (h : c ≡ get_or values 0 None) where
       opened_is : c ≡ opened_for kept.kinds xs p
@@ -576,83 +590,61 @@ module _ {xs rows : List ℕ} {values : List (Option Opened)} {card : List ℕ} 
       abbrev inner_rows : List ℕ
       inner_rows = take (length rows - 1) (drop 1 rows)
 
-      bracket_none : (k : Chosen) → c ≡ None → false ≡ bracket_says kept.kinds xs rows k (entries_of card)
-      bracket_none k f = probe_closed kept.kinds xs p c opened_is inner_rows k (entries_of card) f ∙ ap (λ (x : Probe). probe_says_each kept.kinds xs inner_rows x k (entries_of card)) i
+      bracket_none : (k : Chosen) (all : List Entry) → c ≡ None → false ≡ bracket_says kept.kinds xs rows k all
+      bracket_none k all f = probe_closed kept.kinds xs p c opened_is inner_rows k all f ∙ ap (λ (x : Probe). probe_says_each kept.kinds xs inner_rows x k all) i
 
-      module _ (o : Opened) (f : c ≡ Some o) (k : Chosen) (m : Meaning) (kind : ℕ) (a : kind ≡ get_or kept.kinds p.index 0) (b : m ≡ meaning_of p.operator kind) where
+      module _ (o : Opened) (f : c ≡ Some o) (m : Meaning) (kind : ℕ) (a : kind ≡ get_or kept.kinds p.index 0) (b : m ≡ meaning_of p.operator kind) where
         pub bracket_known : Known xs m o
         bracket_known = probe_known kept.kinds xs p c opened_is o f m kind a b
 
-        -- the answer that the loop over the entries looks for
-        abbrev bracket_some : Bool
-        bracket_some = some_entry (in_brackets kept.kinds xs rows (entries_of card)) k p.index m (value_of xs o) (entries_of card)
+        module _ (k : Chosen) (card : List ℕ) where
+          -- the answer that the loop over the entries looks for
+          abbrev bracket_some : Bool
+          bracket_some = some_entry (in_brackets kept.kinds xs rows (entries_of card)) k p.index m (value_of xs o) (entries_of card)
 
-        pub bracket_start : (from r : ℕ) → from ≡ get_or kept.last p.index 0 → FirstFrom (entry_counts k m (value_of xs o)) card kept p.index from r
-            → Choosing (in_brackets kept.kinds xs rows (entries_of card)) k p.index m (value_of xs o) card kept bracket_some r
-        bracket_start from r e c = choosing_start (in_brackets kept.kinds xs rows (entries_of card)) k p.index m (value_of xs o) card kept w.keeps from r bracketed_index bracketed_kept e c
+          bracket_start : KeepsCard card kept → (from r : ℕ) → from ≡ get_or kept.last p.index 0 → FirstFrom (entry_counts k m (value_of xs o)) card kept p.index from r
+              → Choosing (in_brackets kept.kinds xs rows (entries_of card)) k p.index m (value_of xs o) card kept bracket_some r
+          bracket_start keeps from r e c = choosing_start (in_brackets kept.kinds xs rows (entries_of card)) k p.index m (value_of xs o) card kept keeps from r bracketed_index bracketed_kept e c
 
-        pub bracket_opened : (s r : Bool) → s ≡ bracket_some → r ≡ some_says m o.truth s → r ≡ bracket_says kept.kinds xs rows k (entries_of card)
-        unfolding in_brackets
-        bracket_opened s r q y = probe_opened kept.kinds xs p c opened_is o f inner_rows k (entries_of card) m kind s r a b q y ∙ ap (λ (x : Probe). probe_says_each kept.kinds xs inner_rows x k (entries_of card)) i
+          bracket_opened : (s r : Bool) → s ≡ bracket_some → r ≡ some_says m o.truth s → r ≡ bracket_says kept.kinds xs rows k (entries_of card)
+          unfolding in_brackets
+          bracket_opened s r q y =
+              probe_opened kept.kinds xs p c opened_is o f inner_rows k (entries_of card) m kind s r a b q y ∙ ap (λ (x : Probe). probe_says_each kept.kinds xs inner_rows x k (entries_of card)) i
 
-  pub bracket_closed : (k : Chosen) (c : Option Opened) → c ≡ get_or values 0 None → c ≡ None → false ≡ bracket_says kept.kinds xs rows k (entries_of card)
-  bracket_closed k c h f = bracket_none (probe_of (get_or rows 0 0 / 8)) refl c h k f
+          pub brackets_start : KeepsCard card kept → (from r : ℕ) → from ≡ get_or kept.last p.index 0 → FirstFrom (entry_counts k m (value_of xs o)) card kept p.index from r → Brackets xs rows card kept k p.index m o r
+          brackets_start keeps from r e first = record { choosing = bracket_start keeps from r e first; answers = bracket_opened }
 
--- ---- the loop of a test after brackets
+  pub bracket_closed : (k : Chosen) (all : List Entry) (c : Option Opened) → c ≡ get_or values 0 None → c ≡ None → false ≡ bracket_says kept.kinds xs rows k all
+  bracket_closed k all c h f = bracket_none (probe_of (get_or rows 0 0 / 8)) refl c h k all f
 
--- what it keeps: n is an entry that counts, or 0, and the entries from it on decide
-pub record Brackets (xs rows : List ℕ) (values : List (Option Opened)) (card : List ℕ) (kept : Kept) (k : Chosen) (i : ℕ) (m : Meaning) (o : Opened) (n : ℕ) : Type 0 where
-  pub ready : Bracketed xs rows values card kept
-  pub known : Known xs m o
-  pub choosing : Choosing (in_brackets kept.kinds xs rows (entries_of card)) k i m (value_of xs o) card kept (some_entry (in_brackets kept.kinds xs rows (entries_of card)) k i m (value_of xs o) (entries_of card)) n
-  pub answers : (s r : Bool) → s ≡ some_entry (in_brackets kept.kinds xs rows (entries_of card)) k i m (value_of xs o) (entries_of card) → r ≡ some_says m o.truth s → r ≡ bracket_says kept.kinds xs rows k (entries_of card)
+module _ (xs rows card : List ℕ) (kept : Kept) (k : Chosen) (i : ℕ) (m : Meaning) (o : Opened) where
+  pub brackets_end : Brackets xs rows card kept k i m o 0 → (r : Bool) → r ≡ some_says m o.truth false → r ≡ bracket_says kept.kinds xs rows k (entries_of card)
+  brackets_end inv r y = inv.answers false r (choosing_end (in_brackets kept.kinds xs rows (entries_of card)) k i m (value_of xs o) card kept (some_entry (in_brackets kept.kinds xs rows (entries_of card)) k i m (value_of xs o) (entries_of card)) inv.choosing) y
 
-module _ (xs rows : List ℕ) (values : List (Option Opened)) (card : List ℕ) (kept : Kept) (k : Chosen) (m : Meaning) (o : Opened) where
-  pub brackets_start : (p : Probe) (r' : Option Opened) (kind from r : ℕ) → Bracketed xs rows values card kept → p ≡ probe_of (get_or rows 0 0 / 8) → r' ≡ get_or values 0 None → r' ≡ Some o → kind ≡ get_or kept.kinds p.index 0
-      → m ≡ meaning_of p.operator kind → from ≡ get_or kept.last p.index 0 → FirstFrom (entry_counts k m (value_of xs o)) card kept p.index from r → Brackets xs rows values card kept k p.index m o r
-  brackets_start p r' kind from r w i h f a b e c =
-      record {
-        ready = w;
-        known = bracket_known w p i r' h o f k m kind a b;
-        choosing = bracket_start w p i r' h o f k m kind a b from r e c;
-        answers = bracket_opened w p i r' h o f k m kind a b;
-      }
-
-  module _ (i n : ℕ) (inv : Brackets xs rows values card kept k i m o n) where
-    pub brackets_end : (r : Bool) → n ≤ 0 → r ≡ some_says m o.truth false → r ≡ bracket_says kept.kinds xs rows k (entries_of card)
-    brackets_end r z y = inv.answers false r (choosing_end (in_brackets kept.kinds xs rows (entries_of card)) k i m (value_of xs o) card kept (some_entry (in_brackets kept.kinds xs rows (entries_of card)) k i m (value_of xs o) (entries_of card)) n inv.choosing z) y
-
+  module _ (n : ℕ) (inv : Brackets xs rows card kept k i m o (n + 1)) where
     abbrev says : ℕ → Bool
     says = in_brackets kept.kinds xs rows (entries_of card)
 
     abbrev answer : Bool
     answer = some_entry says k i m (value_of xs o) (entries_of card)
 
-    module _ (l : 0 < n) where
-      pub brackets_room : n - 1 < 64
-      brackets_room = choosing_room says k i m (value_of xs o) card kept answer n inv.choosing l
+    pub brackets_room : n < 64
+    brackets_room = choosing_room says k i m (value_of xs o) card kept answer n inv.choosing
 
-      module _ (b : ℕ) (be : b ≡ (get_or kept.entries (n - 1) none_kept).behind) where
-        pub brackets_behind : OnChain card kept i b
-        brackets_behind = chain_on card kept inv.ready.keeps i n inv.choosing.on l b be
+    module _ (b : ℕ) (be : b ≡ (get_or kept.entries n none_kept).behind) where
+      pub brackets_behind : OnChain card kept i b
+      brackets_behind = chain_on card kept inv.choosing.keeps i n inv.choosing.on b be
 
-        pub brackets_less : (a : ℕ) → FirstFrom (entry_counts k m (value_of xs o)) card kept i b a → a < n
-        brackets_less a f = omega (arith, f.less, chain_less card kept inv.ready.keeps i n inv.choosing.on l b be)
+      pub brackets_less : (a : ℕ) → FirstFrom (entry_counts k m (value_of xs o)) card kept i b a → a < n + 1
+      brackets_less a f = omega (arith, f.less, chain_less card kept inv.choosing.keeps i n inv.choosing.on b be)
 
-      module _ (q : ℕ) (qe : q ≡ (get_or kept.entries (n - 1) none_kept).occurrence) (r : Bool)
-          (y : r ≡ rows_say kept.kinds xs (chosen_of (Some q) (entries_of card)) (take (length rows - 1) (drop 1 rows))) where
-        said : r ≡ says q
-        said = occurrence_says_lem kept.kinds xs rows (entries_of card) q r y
+    module _ (q : ℕ) (qe : q ≡ (get_or kept.entries n none_kept).occurrence) (r : Bool)
+        (y : r ≡ rows_say kept.kinds xs (chosen_of (Some q) (entries_of card)) (take (length rows - 1) (drop 1 rows))) where
+      said : r ≡ says q
+      said = occurrence_says_lem kept.kinds xs rows (entries_of card) q r y
 
-        pub brackets_yes : (t : Bool) → r ≡ true → t ≡ some_says m o.truth true → t ≡ bracket_says kept.kinds xs rows k (entries_of card)
-        brackets_yes t z g = inv.answers true t (choosing_yes says k i m (value_of xs o) card kept answer n inv.choosing l q qe r said z) g
+      pub brackets_yes : (t : Bool) → r ≡ true → t ≡ some_says m o.truth true → t ≡ bracket_says kept.kinds xs rows k (entries_of card)
+      brackets_yes t z g = inv.answers true t (choosing_yes says k i m (value_of xs o) card kept answer n inv.choosing q qe r said z) g
 
-        module _ (b : ℕ) (be : b ≡ (get_or kept.entries (n - 1) none_kept).behind) where
-          pub brackets_next : (a : ℕ) → FirstFrom (entry_counts k m (value_of xs o)) card kept i b a → r ≡ false → Brackets xs rows values card kept k i m o a
-          brackets_next a f z =
-              record {
-                ready = inv.ready;
-                known = inv.known;
-                choosing = choosing_next says k i m (value_of xs o) card kept answer n inv.choosing l q qe r said b be a f z;
-                answers = inv.answers;
-              }
+      pub brackets_next : (b : ℕ) → b ≡ (get_or kept.entries n none_kept).behind → (a : ℕ) → FirstFrom (entry_counts k m (value_of xs o)) card kept i b a → r ≡ false → Brackets xs rows card kept k i m o a
+      brackets_next b be a f z = record { choosing = choosing_next says k i m (value_of xs o) card kept answer n inv.choosing q qe r said b be a f z; answers = inv.answers }

@@ -17,7 +17,7 @@ use Rattle.rows.specs.Cells.{probe_of, row_of, stated}
 use Rattle.rows.specs.Shapes.{value_in}
 use Rattle.rows.specs.declared.Probe.{Probe}
 use Rattle.rows.specs.declared.Row.{Row}
-use Rattle.card_reader.specs.Lists.{IsKept, KeepsCard}
+use Rattle.card_reader.specs.Lists.{IsKept}
 use Rattle.card_reader.specs.declared.Kept.{Kept}
 use Rattle.row_opener.specs.Opening.{Opens}
 use Rattle.row_opener.specs.declared.Opened.{Opened}
@@ -56,23 +56,13 @@ pub record Whole (cs : List ℕ) : Type 0 where
 pub record AllKept (rows : List ℕ) (kept : Kept) : Type 0 where
   pub each : (j : ℕ) → j < length rows → (p : Probe) → row_of (get_or rows j 0) ≡ Row.Test p → IsKept kept p.index
 
--- rows that state an expression, were opened, and are to be judged on a well-formed card that was read; the kinds are those that are kept
-pub record Ready (xs rows : List ℕ) (values : List (Option Opened)) (card : List ℕ) (kept : Kept) : Type 0 where
-  pub short : length xs ≤ 1024
-  pub whole : Whole rows
-  pub opens : Opens kept.kinds xs rows values (length rows)
-  pub keeps : KeepsCard card kept
-  pub all_kept : AllKept rows kept
-
--- the row of a test and the rows of its brackets behind it, opened
-pub record Bracketed (xs rows : List ℕ) (values : List (Option Opened)) (card : List ℕ) (kept : Kept) : Type 0 where
-  pub short : length xs ≤ 1024
+-- the row of a test and the rows of its brackets behind it, opened by the kinds that are kept
+pub record Bracketed (xs rows : List ℕ) (values : List (Option Opened)) (kept : Kept) : Type 0 where
   pub some_row : 1 ≤ length rows
   pub test : Probe
   pub row : row_of (get_or rows 0 0) ≡ Row.Test test
   pub whole : Whole (take (length rows - 1) (drop 1 rows))
   pub opens : Opens kept.kinds xs rows values (length rows)
-  pub keeps : KeepsCard card kept
   pub all_kept : AllKept rows kept
 
 -- a join is decided by the verdict of its first part

@@ -2,6 +2,7 @@
 ghost use Rattle.card_reader.specs.Lists.{Lent};
 ghost use Rattle.row_judge.specs.Asking.{KeepsTests, LentFor};
 
+use crate::OpenedRows;
 use card_reader::{Kept, keep, lend};
 use rows::{Row, row_of};
 
@@ -17,10 +18,11 @@ fn keep_tests(rows: &[u32], kept: &mut Kept)
 }
 
 // What is kept in a run by these rows: the entries of every parameter that they ask about.
-pub fn lend_for(kinds: &[u8; 32], rows: &[u32]) -> Kept
-    ensures { LentFor kinds.now rows.now result }
+pub fn lend_for(opened: &OpenedRows<'_>) -> Kept
+    ensures { LentFor opened.now.kinds.now opened.now.rows.now result }
 {
-    let mut kept = lend(kinds);
-    keep_tests(rows, &mut kept);
+    let rows = opened.rows;
+    let mut kept = lend(opened.kinds);
+    keep_tests(rows.cells, &mut kept);
     kept
 }

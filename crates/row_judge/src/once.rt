@@ -1,52 +1,51 @@
 // Rows that are judged on one card alone.
-ghost use Rattle.std.specs.Prelude.{◌≡◌, true, ◌≤◌, length};
+ghost use Rattle.std.specs.Prelude.{◌≡◌, ◌≤◌, true, length};
 ghost use Rattle.card.specs.Card.{entries_of};
 ghost use Rattle.judge.specs.Sets.{chosen_of, conforms_to};
-ghost use Rattle.row_opener.specs.Opening.{Opens};
-ghost use Rattle.row_judge.specs.Saying.{rows_say, Whole};
+ghost use Rattle.row_judge.specs.Saying.{rows_say};
 
 use crate::asks::lend_for;
 use crate::says::rows_say;
+use crate::{FittingCard, OpenedRows, WholeRows};
 use card::Card;
-use card_reader::read_entries;
+use card_reader::{ReadCard, read_entries};
 use judge::Chosen;
-use row_opener::{Opened, open_rows};
+use row_opener::open_rows;
 
 // What rows that were opened say of the entries that count of a card that conforms to a sheet with these kinds.
-fn say_opened(
-    kinds: &[u8; 32],
-    filter: &[u8],
-    rows: &[u32],
-    values: &[Option<Opened>],
-    card: &Card<'_>,
-    chosen: Chosen,
-) -> bool
-    requires filter_len_bound { length filter.now ≤ 1024 }
-    requires whole { Whole rows.now }
-    requires opens { Opens kinds.now filter.now rows.now values.now (length rows.now) }
-    requires card_value_2 { conforms_to kinds.now (entries_of card.now) ≡ true }
-    ensures { result ≡ rows_say kinds.now filter.now (chosen_of chosen (entries_of card.now)) rows.now }
+fn say_opened(opened: &OpenedRows<'_>, card: &Card<'_>, chosen: Chosen) -> bool
+    requires { conforms_to opened.now.kinds.now (entries_of card.now) ≡ true }
+    ensures { result ≡ rows_say opened.now.kinds.now opened.now.filter.now (chosen_of chosen (entries_of card.now)) opened.now.rows.now }
 {
-    let mut kept = lend_for(kinds, rows);
-    read_entries(kinds, card, &mut kept);
-    rows_say(filter, rows, values, card, &kept, chosen)
+    let mut kept = lend_for(opened);
+    read_entries(opened.kinds, card, &mut kept);
+    let read = ReadCard { card, kept: &kept };
+    rows_say(opened, read, chosen)
 }
 
-// The same of rows that are opened for this card; good rows are that few.
-pub fn say_once(
-    kinds: &[u8; 32],
-    filter: &[u8],
-    rows: &[u32],
-    card: &Card<'_>,
-    chosen: Chosen,
-) -> bool
-    requires filter_len_bound { length filter.now ≤ 1024 }
-    requires whole { Whole rows.now }
-    requires rows_len_bound { length rows.now ≤ 320 }
-    requires card_value_2 { conforms_to kinds.now (entries_of card.now) ≡ true }
-    ensures { result ≡ rows_say kinds.now filter.now (chosen_of chosen (entries_of card.now)) rows.now }
+// What rows that are opened for one card say of it, into N values; N is bounded, since the list is memory of a fixed size.
+fn say_in<const N: usize>(fitting: FittingCard<'_>, rows: &WholeRows<'_>, chosen: Chosen) -> bool
+    requires room { length rows.now ≤ N }
+    requires fixed { N ≤ 320 }
+    ensures { result ≡ rows_say fitting.entry.kinds.now fitting.entry.filter.now (chosen_of chosen (entries_of fitting.entry.card.now)) rows.now }
 {
-    let mut values = [None; 320];
-    open_rows(kinds, filter, rows, &mut values);
-    say_opened(kinds, filter, rows, &values, card, chosen)
+    let mut values = [None; N];
+    open_rows(fitting.kinds, fitting.filter, rows.cells, &mut values);
+    let opened = OpenedRows {
+        kinds: fitting.kinds,
+        filter: fitting.filter,
+        rows: &rows.stated(),
+        values: &values,
+    };
+    say_opened(&opened, fitting.card, chosen)
+}
+
+// The same, into 32 values or 320: those of a few rows take less time to clear.
+pub fn say_once(fitting: FittingCard<'_>, rows: &WholeRows<'_>, chosen: Chosen) -> bool
+    ensures { result ≡ rows_say fitting.entry.kinds.now fitting.entry.filter.now (chosen_of chosen (entries_of fitting.entry.card.now)) rows.now }
+{
+    if rows.cells.len() <= 32 {
+        return say_in::<32>(fitting, rows, chosen);
+    }
+    say_in::<320>(fitting, rows, chosen)
 }

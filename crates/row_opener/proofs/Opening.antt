@@ -16,7 +16,7 @@ use Rattle.number.specs.declared.Decimal.{Decimal}
 use Rattle.date.specs.declared.Date.{Date}
 use Rattle.base.specs.Parts.{part}
 use Rattle.base.proofs.Parts.{part_length}
-use borrow.Author.Tests.{le-ltb, eqb-true, eqb-false}
+use borrow.Author.Tests.{eqb-true, eqb-false}
 use Rattle.syntax.specs.Placed.{PlacedValue}
 use Rattle.syntax.specs.Scan.{value_at}
 use Rattle.syntax.specs.declared.Connective.{Connective}
@@ -118,14 +118,7 @@ pub value_is : (m : Meaning) (v : RawValue) (w : List ℕ) (t : Bool) (r : Readi
 unfolding opened_value
 value_is m v w t r q e h k = rw (e, k, h)
 
-pub text_placed : (m : Meaning) (xs : List ℕ) (v : RawValue) (o : Opened) (w : List ℕ) → o ≡ opened_value m v w → w ≡ value_in xs v → o ≡ opened_value m v (value_in xs v)
-text_placed m xs v o w e h = e ∙ ap (opened_value m v) h
-
 module _ (kinds xs : List ℕ) (p : Probe) where
-  pub for_outside : length xs < p.position → None ≡ opened_for kinds xs p
-  unfolding opened_for value_at
-  for_outside h = rw (le-ltb p.position (length xs) (omega arith))
-
   module _ (f : Option RawValue) (e : f ≡ value_at xs p.position) where
     pub for_nothing : f ≡ None → None ≡ opened_for kinds xs p
     unfolding opened_for

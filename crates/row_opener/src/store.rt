@@ -8,8 +8,7 @@ use crate::{Opened, ValueReading};
 use judge::readings_for;
 use kind::{Meaning, Readings};
 use rows::{Probe, Row, row_of};
-use syntax::RawValue;
-use syntax::value::{decode, read_value};
+use syntax::{FilterText, RawValue};
 
 // ---- what it reads to
 
@@ -64,42 +63,29 @@ fn opened_value(meaning: Meaning, value: RawValue, bytes: &[u8]) -> Opened
 }
 
 // Of a value of the filter.
-fn opened_text(meaning: Meaning, filter: &[u8], value: RawValue) -> Opened
-    requires filter_len_bound { length filter.now ≤ 1024 }
+fn opened_text(meaning: Meaning, filter: &FilterText<'_>, value: RawValue) -> Opened
     requires placed_value { PlacedValue filter.now value }
     ensures { result ≡ opened_value meaning value (value_in filter.now value) }
 {
-    if value.escaped {
-        let mut bytes = [0u8; 1024];
-        let n = decode(&filter[value.start..value.end], &mut bytes);
-        return opened_value(meaning, value, &bytes[..n]);
-    }
-    opened_value(meaning, value, &filter[value.start..value.end])
+    // its size is known by its type
+    let _ = &filter.bytes;
+    filter.of_value(value, |bytes| opened_value(meaning, value, bytes))
 }
 
 // Of a test, if it has a value.
-fn opened_probe(kinds: &[u8; 32], filter: &[u8], probe: Probe) -> Option<Opened>
-    requires filter_len_bound { length filter.now ≤ 1024 }
+fn opened_probe(kinds: &[u8; 32], filter: &FilterText<'_>, probe: Probe) -> Option<Opened>
     requires index_bound { probe.index < 32 }
     ensures { result ≡ opened_for kinds.now filter.now probe }
 {
-    let index = probe.index as usize;
+    let index = usize::from(probe.index);
     let kind = kinds[index];
-    if probe.position > filter.len() {
-        return None;
-    }
-    match read_value(filter, probe.position) {
-        Some(value) => {
-            let meaning = kind::meaning_of(probe.operator, kind);
-            Some(opened_text(meaning, filter, value))
-        }
-        None => None,
-    }
+    let value = filter.read_value(probe.position)?;
+    let meaning = kind::meaning_of(probe.operator, kind);
+    Some(opened_text(meaning, filter, value))
 }
 
 // Of a row: only that of a test has a value.
-fn opened_row(kinds: &[u8; 32], filter: &[u8], cell: u32) -> Option<Opened>
-    requires filter_len_bound { length filter.now ≤ 1024 }
+fn opened_row(kinds: &[u8; 32], filter: &FilterText<'_>, cell: u32) -> Option<Opened>
     ensures { result ≡ opened_row kinds.now filter.now cell }
 {
     match row_of(cell) {
@@ -112,8 +98,12 @@ fn opened_row(kinds: &[u8; 32], filter: &[u8], cell: u32) -> Option<Opened>
 }
 
 // Opens rows: each has its value at its own place, if it has one.
-pub fn open_rows(kinds: &[u8; 32], filter: &[u8], rows: &[u32], values: &mut [Option<Opened>])
-    requires filter_len_bound { length filter.now ≤ 1024 }
+pub fn open_rows(
+    kinds: &[u8; 32],
+    filter: &FilterText<'_>,
+    rows: &[u32],
+    values: &mut [Option<Opened>],
+)
     requires rows_in_bounds { length rows.now ≤ length values.old }
     ensures { Opens kinds.now filter.now rows.now values.new (length rows.now) }
 {

@@ -4,7 +4,6 @@ ghost use Rattle.std.specs.Prelude.{◌≡◌, ◌+◌, ◌≤◌, ◌<◌, leng
 ghost use Rattle.sheet.specs.Sheet.{parameters_of};
 ghost use Rattle.syntax.specs.Placed.{Placed};
 ghost use Rattle.syntax.specs.Scan.{test_of};
-ghost use Rattle.syntax.specs.Grammar.{round};
 ghost use Rattle.rows.specs.Cells.{number_of, cell_of};
 ghost use Rattle.row_writer.specs.Writing.{value_place, index_of, probe_for, Read};
 ghost use Rattle.row_writer.specs.Steps.{Room, Joinable, WroteTest, WroteNot, WroteClosed, WrotePair, WroteMember, WroteJoin, Inside, ChainedAt, WroteItem, WroteFilter, WroteRound, WroteChosen};
@@ -14,10 +13,13 @@ use filter::{Spot, Summary, join_summaries, test_summary};
 use judge::test_found;
 use rows::Row;
 use sheet::{Found, Sheet};
-use syntax::scan::skip;
-use syntax::{
-    Connective, Head, RawTest, RawValue, read_close, read_connective, read_head, read_member,
-};
+use syntax::{Connective, FilterTest, FilterText, Head, RawTest, RawValue};
+
+// Tests are handed on as they stand in the text, since what is written is said of their positions; where judge or filter is asked, a
+// test with its text is made.
+
+// Sheet and text, and the list and the row, are handed on one by one, in functions of up to eight parameters: so the definitions have them
+// (`WroteItem`, `WroteFilter`, ..), and a struct that holds the lent list would have every clause name the loan. `Room` is asked of spots alone.
 
 // The index of what a test names, and 0 where it names nothing.
 fn index_of(found: Option<Found>) -> u32
@@ -27,47 +29,54 @@ fn index_of(found: Option<Found>) -> u32
 }
 
 // Where the value of a test begins: a string's at its quote.
-fn value_place(filter: &[u8], test: RawTest) -> u32
-    requires filter_len_bound { length filter.now ≤ 1024 }
+fn value_place(filter: &FilterText<'_>, test: RawTest) -> u32
     requires placed { Placed filter.now test }
     requires read { Read filter.now test }
     ensures { (result ≡ value_place filter.now test.at) × (result ≤ 1024) }
 {
+    // the size of the text, so that a position in it has room in 32 bits
+    let _ = &filter.bytes;
     let value = test.value;
     let quotes = value.next - value.end;
     (value.start - quotes) as u32
 }
 
 // The number of a test of the filter, looked up in a bundle.
-fn test_number(sheet: &Sheet<'_>, bundle: u8, filter: &[u8], test: RawTest) -> u32
-    requires filter_len_bound { length filter.now ≤ 1024 }
+fn test_number(sheet: &Sheet<'_>, bundle: u8, filter: &FilterText<'_>, test: RawTest) -> u32
     requires placed { Placed filter.now test }
     requires read { Read filter.now test }
     ensures { (result ≡ number_of (probe_for (parameters_of sheet.now) filter.now bundle (test_of filter.now test))) × (result ≤ 2000000) }
 {
-    let index = index_of(test_found(sheet, bundle, filter, test));
+    let asked = FilterTest {
+        text: filter,
+        raw: test,
+    };
+    let index = index_of(test_found(sheet, bundle, &asked));
     let place = value_place(filter, test);
-    let operator = test.operator as u32;
+    let operator = u32::from(test.operator);
     index + 32 * (operator + 32 * place)
 }
 
 // The row of a test, with what is gathered of it.
 fn write_test(
     sheet: &Sheet<'_>,
-    filter: &[u8],
+    filter: &FilterText<'_>,
     bundle: u8,
     test: RawTest,
     rows: &mut [u32],
     row: usize,
 ) -> Written
-    requires filter_len_bound { length filter.now ≤ 1024 }
     requires placed { Placed filter.now test }
     requires read { Read filter.now test }
     requires row_in_bounds { row < length rows.old }
     ensures { WroteTest (parameters_of sheet.now) bundle filter.now row test result rows.old rows.new }
 {
     rows[row] = 8 * test_number(sheet, bundle, filter, test);
-    let summary = test_summary(sheet, bundle, filter, test.at, test);
+    let asked = FilterTest {
+        text: filter,
+        raw: test,
+    };
+    let summary = test_summary(sheet, bundle, &asked, test.at);
     Written {
         end: test.value.next,
         outcome: Outcome { summary, cells: 1 },
@@ -91,7 +100,7 @@ fn write_not(end: usize, inner: Outcome, rows: &mut [u32], row: usize) -> Writte
 
 // The end of round brackets behind the filter in them, which was read and has its rows written from a row on.
 fn close_round(
-    filter: &[u8],
+    filter: &FilterText<'_>,
     negate: bool,
     inner: Written,
     rows: &mut [u32],
@@ -101,7 +110,7 @@ fn close_round(
     requires cells_in_bounds { row + inner.outcome.cells < length rows.old }
     ensures { WroteClosed filter.now inner.end negate inner.outcome row result rows.old rows.new }
 {
-    let end = read_close(filter, b')', inner.end)?;
+    let end = filter.read_close(b')', inner.end)?;
     if negate {
         return Some(write_not(end, inner.outcome, rows, row));
     }
@@ -112,18 +121,21 @@ fn close_round(
 #[cycle(writing)]
 fn write_round(
     sheet: &Sheet<'_>,
-    filter: &[u8],
+    filter: &FilterText<'_>,
     spot: Spot,
     negate: bool,
     rows: &mut [u32],
     row: usize,
 ) -> Option<Written>
     requires room { Room filter.now rows.old row spot.at }
-    requires close_value { spot.close ≡ round }
     requires row_lt_at { row < spot.at }
     ensures { WroteRound sheet.now filter.now spot negate row result rows.old rows.new }
 {
-    let inner = write_filter(sheet, filter, spot, rows, row)?;
+    let inside = Spot {
+        close: b')',
+        ..spot
+    };
+    let inner = write_filter(sheet, filter, inside, rows, row)?;
     close_round(filter, negate, inner, rows, row)
 }
 
@@ -137,15 +149,15 @@ fn bracket_cell(size: usize) -> u32
 }
 
 // The spot in the square brackets of the bundle whose name begins at a spot and ends at `until`.
-fn inside_of(sheet: &Sheet<'_>, filter: &[u8], spot: Spot, until: usize) -> Spot
+fn inside_of(sheet: &Sheet<'_>, filter: &FilterText<'_>, spot: Spot, until: usize) -> Spot
     requires at_le_until { spot.at ≤ until }
     requires until_in_bounds { until < length filter.now }
     ensures { Inside (parameters_of sheet.now) filter.now spot until result }
 {
     let at = spot.at;
-    let bundle = sheet.enter(spot.bundle, &filter[at..until]);
+    let bundle = sheet.enter(spot.bundle, filter.part(at, until));
     Spot {
-        at: skip(filter, until + 1),
+        at: filter.skip_after(until),
         levels: spot.levels,
         close: b']',
         bundle,
@@ -156,7 +168,7 @@ fn inside_of(sheet: &Sheet<'_>, filter: &[u8], spot: Spot, until: usize) -> Spot
 // bundle's name begins.
 fn write_pair(
     sheet: &Sheet<'_>,
-    filter: &[u8],
+    filter: &FilterText<'_>,
     bundle: u8,
     at: usize,
     test: RawTest,
@@ -164,7 +176,6 @@ fn write_pair(
     rows: &mut [u32],
     row: usize,
 ) -> Written
-    requires filter_len_bound { length filter.now ≤ 1024 }
     requires placed { Placed filter.now test }
     requires read { Read filter.now test }
     requires cells_in_bounds { row + inner.cells + 1 < length rows.old }
@@ -175,7 +186,11 @@ fn write_pair(
     let cells = inner.cells;
     rows[row] = bracket_cell(cells);
     rows[row + 1] = 8 * test_number(sheet, bundle, filter, test);
-    let outer = test_summary(sheet, bundle, filter, at, test);
+    let asked = FilterTest {
+        text: filter,
+        raw: test,
+    };
+    let outer = test_summary(sheet, bundle, &asked, at);
     let summary = join_summaries(outer, inner.summary);
     Written {
         end: test.value.next,
@@ -190,21 +205,20 @@ fn write_pair(
 // spot.
 fn write_member(
     sheet: &Sheet<'_>,
-    filter: &[u8],
+    filter: &FilterText<'_>,
     spot: Spot,
     bundle: u8,
     inner: Written,
     rows: &mut [u32],
     row: usize,
 ) -> Option<Written>
-    requires filter_len_bound { length filter.now ≤ 1024 }
     requires end_in_bounds { inner.end ≤ length filter.now }
     requires cells_in_bounds { row + inner.outcome.cells + 1 < length rows.old }
     requires cells_bound { inner.outcome.cells ≤ 1024 }
     requires tests_bound { inner.outcome.summary.tests < 1024 }
     ensures { WroteMember (parameters_of sheet.now) bundle filter.now spot inner.end inner.outcome row result rows.old rows.new }
 {
-    let test = read_member(filter, spot.close, inner.end)?;
+    let test = filter.read_member(spot.close, inner.end)?;
     let at = spot.at;
     Some(write_pair(sheet, filter, bundle, at, test, inner.outcome, rows, row))
 }
@@ -214,7 +228,7 @@ fn write_member(
 #[cycle(writing)]
 fn write_chosen(
     sheet: &Sheet<'_>,
-    filter: &[u8],
+    filter: &FilterText<'_>,
     spot: Spot,
     until: usize,
     rows: &mut [u32],
@@ -235,7 +249,7 @@ fn write_chosen(
 #[cycle(writing)]
 fn write_item(
     sheet: &Sheet<'_>,
-    filter: &[u8],
+    filter: &FilterText<'_>,
     spot: Spot,
     rows: &mut [u32],
     row: usize,
@@ -243,13 +257,10 @@ fn write_item(
     requires room { Room filter.now rows.old row spot.at }
     ensures { WroteItem sheet.now filter.now spot row result rows.old rows.new }
 {
-    let at = spot.at;
     let levels = spot.levels;
-    let close = spot.close;
-    let bundle = spot.bundle;
-    let head = read_head(filter, close, at)?;
+    let head = filter.read_head(spot.close, spot.at)?;
     match head {
-        Head::Test(test) => Some(write_test(sheet, filter, bundle, test, rows, row)),
+        Head::Test(test) => Some(write_test(sheet, filter, spot.bundle, test, rows, row)),
         Head::Open(next, negate) => {
             if levels == 0 {
                 return None;
@@ -257,8 +268,7 @@ fn write_item(
             let inside = Spot {
                 at: next,
                 levels: levels - 1,
-                close: b')',
-                bundle,
+                ..spot
             };
             write_round(sheet, filter, inside, negate, rows, row)
         }
@@ -267,10 +277,8 @@ fn write_item(
                 return None;
             }
             let member = Spot {
-                at,
                 levels: levels - 1,
-                close,
-                bundle,
+                ..spot
             };
             write_chosen(sheet, filter, member, until, rows, row)
         }
@@ -314,7 +322,7 @@ fn write_join(
 #[cycle(writing)]
 fn write_rest(
     sheet: &Sheet<'_>,
-    filter: &[u8],
+    filter: &FilterText<'_>,
     spot: Spot,
     rows: &mut [u32],
     row: usize,
@@ -325,7 +333,7 @@ fn write_rest(
 {
     let mut read = first;
     // no for: where the next item begins is known when the one before it was read
-    while let Some(link) = read_connective(filter, read.end) {
+    while let Some(link) = filter.read_connective(read.end) {
         let next = Spot {
             at: link.next,
             ..spot
@@ -343,7 +351,7 @@ fn write_rest(
 #[cycle(writing)]
 pub fn write_filter(
     sheet: &Sheet<'_>,
-    filter: &[u8],
+    filter: &FilterText<'_>,
     spot: Spot,
     rows: &mut [u32],
     row: usize,

@@ -48,19 +48,14 @@ module _ (kinds xs : List ℕ) (p : Probe) (f : Bool) (kind : ℕ) (e : f ≡ ki
   unfolding probe_fits
   probe_no_kind h = rw (← same, sym e ∙ h)
 
-  module _ (h : f ≡ true) where
-    pub probe_outside : length xs < p.position → false ≡ probe_fits kinds xs p
-    unfolding probe_fits value_at
-    probe_outside o = rw (← same, sym e ∙ h, le-ltb p.position (length xs) (omega arith))
+  module _ (h : f ≡ true) (g : Option RawValue) (i : g ≡ value_at xs p.position) where
+    pub probe_no_value : g ≡ None → false ≡ probe_fits kinds xs p
+    unfolding probe_fits
+    probe_no_value j = rw (← same, sym e ∙ h, sym i ∙ j)
 
-    module _ (g : Option RawValue) (i : g ≡ value_at xs p.position) where
-      pub probe_no_value : g ≡ None → false ≡ probe_fits kinds xs p
-      unfolding probe_fits
-      probe_no_value j = rw (← same, sym e ∙ h, sym i ∙ j)
-
-      pub probe_value : (v : RawValue) (r : Bool) → g ≡ Some v → r ≡ value_readable p.operator kind (value_in xs v) → r ≡ probe_fits kinds xs p
-      unfolding probe_fits
-      probe_value v r j k = rw (← same, sym e ∙ h, sym i ∙ j) k
+    pub probe_value : (v : RawValue) (r : Bool) → g ≡ Some v → r ≡ value_readable p.operator kind (value_in xs v) → r ≡ probe_fits kinds xs p
+    unfolding probe_fits
+    probe_value v r j k = rw (← same, sym e ∙ h, sym i ∙ j) k
 
 module _ (kinds parents xs : List ℕ) (p : Probe) (f : Bool) (e : f ≡ probe_fits kinds xs p) (parent : ℕ) (same : parent ≡ get_or parents p.index 0) where
   pub stands_fits : (c : ℕ) → f ≡ true → eqb parent c ≡ (probe_fits kinds xs p && eqb (get_or parents p.index 0) c)

@@ -6,12 +6,11 @@ ghost use Rattle.rows.specs.Cells.{row_of};
 ghost use Rattle.rows.specs.Shapes.{kind_fits, value_in, probe_fits, member_by};
 
 use crate::cell::row_of;
-use crate::{Probe, Row};
+use crate::{Probe, Row, Tables};
 use base::kind::Kind;
 use base::operator::Operator;
 use judge::has_meaning;
-use syntax::RawValue;
-use syntax::value::{decode, read_value};
+use syntax::{FilterText, RawValue};
 
 // Whether a parameter of this kind is there, is no bundle, and has the operator.
 fn kind_fits(operator: u8, kind: u8) -> bool
@@ -30,64 +29,52 @@ fn kind_fits(operator: u8, kind: u8) -> bool
 }
 
 // Whether a value of the filter is readable for an operator and a kind.
-fn value_fits(operator: u8, kind: u8, filter: &[u8], value: RawValue) -> bool
-    requires filter_len_bound { length filter.now ≤ 1024 }
+fn value_fits(operator: u8, kind: u8, filter: &FilterText<'_>, value: RawValue) -> bool
     requires placed_value { PlacedValue filter.now value }
     ensures { result ≡ value_readable operator kind (value_in filter.now value) }
 {
-    let start = value.start;
-    let end = value.end;
-    if value.escaped {
-        let mut bytes = [0u8; 1024];
-        let n = decode(&filter[start..end], &mut bytes);
-        return kind::value_readable(operator, kind, &bytes[..n]);
-    }
-    kind::value_readable(operator, kind, &filter[start..end])
+    filter.of_value(value, |bytes| kind::value_readable(operator, kind, bytes))
 }
 
+// That a probe's index is below 32 is a clause, here, in `row_opener` and in `row_judge`: definitions make probes of any index.
+
 // Whether a test names a parameter with its operator, and its value is one by the grammar and readable.
-fn probe_fits(kinds: &[u8; 32], filter: &[u8], probe: Probe) -> bool
-    requires filter_len_bound { length filter.now ≤ 1024 }
+fn probe_fits(tables: &Tables, filter: &FilterText<'_>, probe: Probe) -> bool
     requires index_bound { probe.index < 32 }
-    ensures { result ≡ probe_fits kinds.now filter.now probe }
+    ensures { result ≡ probe_fits tables.now.kinds filter.now probe }
 {
-    let index = probe.index as usize;
-    let kind = kinds[index];
+    let index = usize::from(probe.index);
+    let kind = tables.kinds[index];
     if !kind_fits(probe.operator, kind) {
         return false;
     }
-    if probe.position > filter.len() {
+    let Some(value) = filter.read_value(probe.position) else {
         return false;
-    }
-    match read_value(filter, probe.position) {
-        Some(value) => value_fits(probe.operator, kind, filter, value),
-        None => false,
-    }
+    };
+    value_fits(probe.operator, kind, filter, value)
 }
 
 // Whether a test fits where it stands, 0 at the top and a bundle's index plus 1 in its brackets.
-pub fn stands(kinds: &[u8; 32], parents: &[u8; 32], filter: &[u8], probe: Probe, scope: u8) -> bool
-    requires filter_len_bound { length filter.now ≤ 1024 }
+pub fn stands(tables: &Tables, filter: &FilterText<'_>, probe: Probe, scope: u8) -> bool
     requires index_bound { probe.index < 32 }
-    ensures { result ≡ (probe_fits kinds.now filter.now probe && eqb (get_or parents.now probe.index 0) scope) }
+    ensures { result ≡ (probe_fits tables.now.kinds filter.now probe && eqb (get_or tables.now.parents probe.index 0) scope) }
 {
-    let index = probe.index as usize;
-    if probe_fits(kinds, filter, probe) {
-        return parents[index] == scope;
+    let index = usize::from(probe.index);
+    if probe_fits(tables, filter, probe) {
+        return tables.parents[index] == scope;
     }
     false
 }
 
 // The index plus 1 of the bundle that a test's parameter is a member of, where the cell says a test and it fits; else 0.
-pub fn member_of(kinds: &[u8; 32], parents: &[u8; 32], filter: &[u8], cell: u32) -> u8
-    requires filter_len_bound { length filter.now ≤ 1024 }
-    ensures { result ≡ member_by kinds.now parents.now filter.now (row_of cell) }
+pub fn member_of(tables: &Tables, filter: &FilterText<'_>, cell: u32) -> u8
+    ensures { result ≡ member_by tables.now.kinds tables.now.parents filter.now (row_of cell) }
 {
     match row_of(cell) {
         Row::Test(probe) => {
-            let index = probe.index as usize;
-            if probe_fits(kinds, filter, probe) {
-                return parents[index];
+            let index = usize::from(probe.index);
+            if probe_fits(tables, filter, probe) {
+                return tables.parents[index];
             }
             0
         }

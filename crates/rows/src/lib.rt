@@ -11,7 +11,15 @@ pub use cell::{bit, probe_of, row_of};
 use syntax::Connective;
 pub use whole::are_good;
 
-// A probe is a test as a row has it: the index of its parameter, its operator's number, and the position of its value's first byte in the text.
+// What rows are held against of a sheet, by a parameter's index: its kind, and its bundle, which is the bundle's index plus 1, or 0 at the top.
+#[derive(Clone, Copy)]
+pub struct Tables {
+    pub kinds: [u8; 32],
+    pub parents: [u8; 32],
+}
+
+// A probe is a test as a row has it: the index of its parameter, its operator by the number that a cell has, which may be none's, and the
+// position of its value's first byte in the text.
 #[derive(Clone, Copy)]
 pub struct Probe {
     pub index: u8,
@@ -20,7 +28,8 @@ pub struct Probe {
 }
 
 // What a cell says: a test, brackets with the number of rows in them (which stand behind the row of the test after them), not, a connective
-// with the number of rows of its second part, or nothing: cells come from anybody, and what says nothing is told by every match.
+// with the number of rows of its second part, or nothing. Cells come from anybody: Unknown is an arm, so that each match says what it does
+// with such a cell.
 #[derive(Clone, Copy)]
 pub enum Row {
     Test(Probe),

@@ -7,8 +7,10 @@ ghost use Rattle.rows.specs.Shapes.{fits_in, shape_by, InHand, Began, BeganInBra
 
 use crate::cell::row_of;
 use crate::fit::{member_of, stands};
-use crate::{Begun, Row, Shape};
+use crate::{Begun, Row, Shape, Tables};
+use syntax::FilterText;
 
+// The larger of two numbers.
 fn larger(a: usize, b: usize) -> usize
     ensures { result ≡ larger a b }
 {
@@ -48,19 +50,21 @@ fn joined(first: Shape, second: Shape) -> Shape
     }
 }
 
+// That rows are at most 320 is a clause, so that what is counted along them fits: a type would be made anew, and its fact proved, for each part.
+
+// The tables and the text are handed on one by one: with two, a struct is no shorter than its parts, and each part of rows is held against both.
+
 // Of the first test of rows, after brackets with so many rows in them.
 #[cycle(shapes)]
 fn shape_in_brackets(
-    kinds: &[u8; 32],
-    parents: &[u8; 32],
-    filter: &[u8],
+    tables: &Tables,
+    filter: &FilterText<'_>,
     rows: &[u32],
     size: usize,
     calls: usize,
 ) -> Option<Begun>
-    requires filter_len_bound { length filter.now ≤ 1024 }
     requires rows_len_bound { length rows.now ≤ 320 }
-    ensures { BeganInBrackets kinds.now parents.now filter.now calls rows.now size result }
+    ensures { BeganInBrackets tables.now.kinds tables.now.parents filter.now calls rows.now size result }
 {
     if rows.len() < 2 {
         return None;
@@ -68,12 +72,12 @@ fn shape_in_brackets(
     if size > rows.len() - 2 {
         return None;
     }
-    let bundle = member_of(kinds, parents, filter, rows[1]);
+    let bundle = member_of(tables, filter, rows[1]);
     if bundle == 0 {
         return None;
     }
     let end = size + 2;
-    let inner = shape_of(kinds, parents, filter, &rows[2..end], bundle, calls)?;
+    let inner = shape_of(tables, filter, &rows[2..end], bundle, calls)?;
     Some(Begun {
         shape: deeper(inner, 1),
         next: end,
@@ -83,21 +87,19 @@ fn shape_in_brackets(
 // Of the first test of rows, with the brackets before it, in a scope.
 #[cycle(shapes)]
 fn shape_of_first(
-    kinds: &[u8; 32],
-    parents: &[u8; 32],
-    filter: &[u8],
+    tables: &Tables,
+    filter: &FilterText<'_>,
     rows: &[u32],
     scope: u8,
     calls: usize,
 ) -> Option<Begun>
-    requires filter_len_bound { length filter.now ≤ 1024 }
     requires in_bounds { 1 ≤ length rows.now }
     requires rows_len_bound { length rows.now ≤ 320 }
-    ensures { Began kinds.now parents.now filter.now scope calls rows.now result }
+    ensures { Began tables.now.kinds tables.now.parents filter.now scope calls rows.now result }
 {
     match row_of(rows[0]) {
         Row::Test(probe) => {
-            if stands(kinds, parents, filter, probe, scope) {
+            if stands(tables, filter, probe, scope) {
                 let shape = Shape {
                     tests: 1,
                     chain: 0,
@@ -111,7 +113,7 @@ fn shape_of_first(
             if scope > 0 {
                 return None;
             }
-            shape_in_brackets(kinds, parents, filter, rows, size, calls)
+            shape_in_brackets(tables, filter, rows, size, calls)
         }
         _ => None,
     }
@@ -120,18 +122,16 @@ fn shape_of_first(
 // Of all rows, with the shape of those before the next in hand.
 #[cycle(shapes)]
 fn shape_with(
-    kinds: &[u8; 32],
-    parents: &[u8; 32],
-    filter: &[u8],
+    tables: &Tables,
+    filter: &FilterText<'_>,
     rows: &[u32],
     scope: u8,
     calls: usize,
     begun: Begun,
 ) -> Option<Shape>
-    requires filter_len_bound { length filter.now ≤ 1024 }
     requires rows_len_bound { length rows.now ≤ 320 }
-    requires in_hand { InHand kinds.now parents.now filter.now scope calls rows.now begun.next begun.shape }
-    ensures { result ≡ shape_by (fits_in kinds.now parents.now filter.now scope) (stated_in (suc calls) rows.now) }
+    requires in_hand { InHand tables.now.kinds tables.now.parents filter.now scope calls rows.now begun.next begun.shape }
+    ensures { result ≡ shape_by (fits_in tables.now.kinds tables.now.parents filter.now scope) (stated_in (suc calls) rows.now) }
 {
     let mut shape = begun.shape;
     let mut at = begun.next;
@@ -149,7 +149,7 @@ fn shape_with(
                 }
                 let end = start + size;
                 let part = &rows[start..end];
-                let second = shape_of(kinds, parents, filter, part, scope, calls)?;
+                let second = shape_of(tables, filter, part, scope, calls)?;
                 shape = joined(shape, second);
                 at = end;
             }
@@ -162,16 +162,14 @@ fn shape_with(
 // Of what rows state in a scope, by at most so many calls within calls.
 #[cycle(shapes)]
 pub fn shape_of(
-    kinds: &[u8; 32],
-    parents: &[u8; 32],
-    filter: &[u8],
+    tables: &Tables,
+    filter: &FilterText<'_>,
     rows: &[u32],
     scope: u8,
     calls: usize,
 ) -> Option<Shape>
-    requires filter_len_bound { length filter.now ≤ 1024 }
     requires rows_len_bound { length rows.now ≤ 320 }
-    ensures { result ≡ shape_by (fits_in kinds.now parents.now filter.now scope) (stated_in calls rows.now) }
+    ensures { result ≡ shape_by (fits_in tables.now.kinds tables.now.parents filter.now scope) (stated_in calls rows.now) }
 {
     if calls == 0 {
         return None;
@@ -180,6 +178,6 @@ pub fn shape_of(
         return None;
     }
     let inner = calls - 1;
-    let begun = shape_of_first(kinds, parents, filter, rows, scope, inner)?;
-    shape_with(kinds, parents, filter, rows, scope, inner, begun)
+    let begun = shape_of_first(tables, filter, rows, scope, inner)?;
+    shape_with(tables, filter, rows, scope, inner, begun)
 }

@@ -2,7 +2,9 @@
 ghost use Rattle.std.specs.Prelude.{◌≡◌, ◌≤◌, length};
 ghost use Rattle.rows.specs.Shapes.{good};
 
+use crate::Tables;
 use crate::shapes::shape_of;
+use syntax::FilterText;
 
 // The most rows that an expression within both limits has.
 const MOST_ROWS: usize = 320;
@@ -10,15 +12,14 @@ const MOST_ROWS: usize = 320;
 // The most calls within calls that it takes to read one: two for each level, a second part and the brackets in it, and two more.
 const MOST_CALLS: usize = 18;
 
-// Whether rows are good for a filter's text, on a sheet with these kinds and parents by index.
-pub fn are_good(kinds: &[u8; 32], parents: &[u8; 32], filter: &[u8], rows: &[u32]) -> bool
-    requires filter_len_bound { length filter.now ≤ 1024 }
-    ensures { result ≡ good kinds.now parents.now filter.now rows.now }
+// Whether rows are good for a filter's text, on a sheet with these tables.
+pub fn are_good(tables: &Tables, filter: &FilterText<'_>, rows: &[u32]) -> bool
+    ensures { result ≡ good tables.now.kinds tables.now.parents filter.now rows.now }
 {
     if rows.len() > MOST_ROWS {
         return false;
     }
-    let Some(shape) = shape_of(kinds, parents, filter, rows, 0, MOST_CALLS) else {
+    let Some(shape) = shape_of(tables, filter, rows, 0, MOST_CALLS) else {
         return false;
     };
     shape.tests <= 32 && shape.chain <= 8

@@ -1,11 +1,10 @@
 -- What seal and record answer, and what seal leaves in the block.
 -- Assumes nothing.
-use Rattle.std.specs.Prelude.{ℕ, cond, List, eqb, length, take, Err, Ok, Result}
-use Rattle.refusal.specs.Answers.{Answer, count, refused, refusal_answer, counted_answer}
+use Rattle.std.specs.Prelude.{ℕ, cond, List, eqb, length, take}
+use Rattle.refusal.specs.Answers.{Answer, count, refused}
 use Rattle.block.specs.Words.{word}
 use Rattle.block.specs.Sum.{check_sum}
 use Rattle.block.specs.Seal.{seal}
-use Rattle.refusal.specs.declared.Refusal.{Refusal}
 
 -- seal answers the check sum; "20: the card is not 512 bytes" is said of any block here
 unfoldable pub seal_answer : List ℕ → Answer

@@ -33,10 +33,10 @@ pub fn seal(block: &mut [u8]) -> Result<u32, Refusal>
     ensures result_value { counted_answer result ≡ seal_answer block.old }
     ensures block_after { block.new ≡ sealed_bytes block.old }
 {
-    if block.len() != 512 {
+    let Ok(whole) = <&[u8; 512]>::try_from(&*block) else {
         return wrong_size();
-    }
-    let sum = check_sum(block);
+    };
+    let sum = check_sum(whole);
     put_sum(block, sum);
     Ok(sum)
 }

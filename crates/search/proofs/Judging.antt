@@ -5,17 +5,16 @@
 -- i-th had a fault, so the first fault of the rows left is the first of all. `Saying`: the verdict is that of the rows left, with whether
 -- the pair at hand is met so far; at the last row of a pair it is no where the pair is not met, and else the next pair begins unmet.
 -- Assumes nothing.
-use Rattle.std.specs.Prelude.{Err, Ok, Result, ⊤, Option, None, Some}
+use Rattle.std.specs.Prelude.{Err, Ok, Result, ⊤}
 use Prim.Native.Nat.{ℕ, ◌+◌, ◌-◌, ◌≤◌, ◌<◌}
 use native.Mathlib.Numerals.{add-one}
 use mathlib.Core.Path.{◌≡◌, refl, ap, sym, ◌∙◌, subst}
 use mathlib.Core.Bool.{Bool, true, false, cond, not, ◌&&◌, ◌||◌}
 use mathlib.Core.List.{List, ◌∷◌, ◌++◌, map}
-use lib.Dec.{eqb}
 use lib.ListN.{length, get_or, take, drop, take-append-drop, drop_of_length-le}
 use lib.Seq.{drop-cons}
 use borrow.Author.Tests.{eq-eqb, ne_eqb}
-use Rattle.base.specs.Kinds.{token, bundle_kind}
+use Rattle.base.specs.Kinds.{token}
 use Rattle.base.specs.Lists.{All}
 use Rattle.base.specs.Parts.{part}
 use Rattle.base.proofs.All.{all_head, all_right}
@@ -24,7 +23,6 @@ use Rattle.token.specs.Filter.{readable_at}
 use Rattle.token.specs.Match.{matches_at}
 use Rattle.sheet.specs.Sheet.{Parameter}
 use Rattle.sheet.specs.Find.{find}
-use Rattle.sheet.specs.declared.Found.{Found}
 use Rattle.card.specs.Card.{Entry}
 use Rattle.kind.specs.Table.{meaning_of}
 use Rattle.kind.specs.declared.Meaning.{Meaning}
@@ -74,25 +72,6 @@ module _ (kind split : ℕ) (text : List ℕ) (p : ℕ) where
     unfolding text_fault
     token_unreadable t k e h g = g ∙ rw (eq-eqb kind token k, sym e ∙ h)
 
-    pub at-bundle : kind ≡ 7 → f ≡ refuse Reason.UnknownName p → f ≡ cond (eqb kind bundle_kind) (refuse Reason.UnknownName p) (text_fault kind split text p)
-    at-bundle k g = g ∙ rw (eq-eqb kind bundle_kind k)
-
-    pub at_kind : (kind ≡ 7 → ⊥) → f ≡ text_fault kind split text p → f ≡ cond (eqb kind bundle_kind) (refuse Reason.UnknownName p) (text_fault kind split text p)
-    at_kind k e = e ∙ rw (ne_eqb kind bundle_kind k)
-
-module _ (split : ℕ) (text : List ℕ) (o : Option Found) (there : Option Found) (e : o ≡ there) where
-  pub fault_found : (p : ℕ) (x : Found) (f : Result ⊤ Refusal) → o ≡ Some x → f ≡ cond (eqb x.kind bundle_kind) (refuse Reason.UnknownName p) (text_fault x.kind split text p) → f ≡ fault_at there split text p
-  fault_found p x f h g = g ∙ rw (sym e ∙ h)
-
-  pub fault_missing : (p : ℕ) (f : Result ⊤ Refusal) → o ≡ None → f ≡ refuse Reason.UnknownName p → f ≡ fault_at there split text p
-  fault_missing p f h g = g ∙ rw (sym e ∙ h)
-
-  pub says-found : (es : List Entry) (x : Found) (b : Bool) → o ≡ Some x → b ≡ text_says x.kind split text (values_at x.index es) → b ≡ says_at there split text es
-  says-found es x b h g = g ∙ rw (sym e ∙ h)
-
-  pub says_missing : (es : List Entry) → o ≡ None → false ≡ says_at there split text es
-  says_missing es h = rw (sym e ∙ h)
-
 module _ (ps : List Parameter) (bytes : List ℕ) (row : Row) where
   pub row_faulted : (f : Result ⊤ Refusal) → f ≡ fault_at (find 0 (part bytes row.name row.until) ps) row.split (part bytes row.text row.end) row.at → f ≡ alternative_fault ps (alternative_in bytes row)
   unfolding alternative_fault kept_in lookup
@@ -111,12 +90,6 @@ module _ (ps : List Parameter) (bytes : List ℕ) (row : Row) where
 pub token-says : (kind split : ℕ) (text : List ℕ) (set : List (List ℕ)) (b : Bool) → kind ≡ 4 → b ≡ some_value (λ x. matches_at x split text) set → b ≡ text_says kind split text set
 unfolding text_says
 token-says kind split text set b k e = e ∙ rw (eq-eqb kind token k)
-
-pub under_asked : (under : Bool) (x : List ℕ) (split : ℕ) (asked : List ℕ) (b : Bool) → under ≡ true → b ≡ matches_at x split asked → b ≡ (under && matches_at x split asked)
-under_asked under x split asked b u e = e ∙ rw u
-
-pub not_under : (under : Bool) (x : List ℕ) (split : ℕ) (asked : List ℕ) → under ≡ false → false ≡ (under && matches_at x split asked)
-not_under under x split asked u = rw u
 
 -- ---- the rows of a query
 

@@ -29,15 +29,12 @@ fn has_prefix_word(operator: Operator) -> bool
     )
 }
 
-// The same of the operator with a number.
+// The same of the operator with a number. `judge::faults::unsupported` is alike in shape: another table, in one line each.
 #[tactic(auto, using(crate::proofs::Prefixes::prefix_none))]
 fn is_prefix(operator: u8) -> bool
     ensures { result ≡ member operator prefixes }
 {
-    match Operator::of(operator) {
-        Some(operator) => has_prefix_word(operator),
-        None => false,
-    }
+    Operator::of(operator).is_some_and(|operator| has_prefix_word(operator))
 }
 
 // What a text asks that has no prefix: it is the value, whole.
@@ -85,8 +82,8 @@ fn asked_under(kind: Kind, text: &[u8]) -> Prefixed
 pub fn asked_of(kind: u8, text: &[u8]) -> Prefixed
     ensures { PrefixOf (asked_of kind text.now) text.now result }
 {
-    match Kind::of(kind) {
-        Some(kind) => asked_under(kind, text),
-        None => whole(Operator::Re),
-    }
+    let Some(kind) = Kind::of(kind) else {
+        return whole(Operator::Re);
+    };
+    asked_under(kind, text)
 }

@@ -1,15 +1,13 @@
 // What is decided of an alternative on a sheet, whatever the card.
-ghost use Rattle.std.specs.Prelude.{◌≡◌, cond, eqb, length};
-ghost use Rattle.base.specs.Kinds.{bundle_kind};
+ghost use Rattle.std.specs.Prelude.{◌≡◌, length};
 ghost use Rattle.sheet.specs.Sheet.{parameters_of};
 ghost use Rattle.sheet.specs.Find.{find};
-ghost use Rattle.refusal.specs.Decisions.{refuse};
 ghost use Rattle.search.specs.Meaning.{text_fault, fault_at, alternative_fault, first_alternative_fault};
-ghost use Rattle.query.specs.Rows.{alternative_in, alternatives_in, RowWithin, RowsWithin};
+ghost use Rattle.query.specs.Rows.{alternative_in, alternatives_in, RowWithin};
 
 use crate::asked::asked_of;
 use base::kind::Kind;
-use query::{Row, Rows};
+use query::{KeptQuery, Row};
 use refusal::{Reason, Refusal, refuse};
 use sheet::{Found, Sheet};
 
@@ -28,17 +26,7 @@ fn text_fault(kind: u8, split: usize, text: &[u8], place: usize) -> Result<(), R
     judge::kind_fault(asked.operator, kind, &text[skip..], place)
 }
 
-// The same at a parameter: "14 (bundles and members too)".
-fn parameter_fault(kind: u8, split: usize, text: &[u8], place: usize) -> Result<(), Refusal>
-    ensures { result ≡ cond (eqb kind bundle_kind) (refuse Reason.UnknownName place) (text_fault kind split text.now place) }
-{
-    if kind == Kind::Bundle as u8 {
-        return refuse(Reason::UnknownName, place);
-    }
-    text_fault(kind, split, text, place)
-}
-
-// The same under a name, on a well-formed sheet.
+// The same under a name, on a well-formed sheet: "14 (bundles and members too)".
 fn fault_at(
     sheet: &Sheet<'_>,
     name: &[u8],
@@ -49,8 +37,10 @@ fn fault_at(
     ensures { result ≡ fault_at (find 0 name.now (parameters_of sheet.now)) split text.now place }
 {
     match sheet.find(0, name) {
-        Some(found) => parameter_fault(found.kind, split, text, place),
-        None => refuse(Reason::UnknownName, place),
+        Some(found) if found.kind != Kind::Bundle as u8 => {
+            text_fault(found.kind, split, text, place)
+        }
+        _ => refuse(Reason::UnknownName, place),
     }
 }
 
@@ -73,12 +63,11 @@ fn row_fault(sheet: &Sheet<'_>, bytes: &[u8], row: Row) -> Result<(), Refusal>
 }
 
 // What the first alternative of a query that is refused comes to: the first byte of its pair is its place.
-pub fn first_fault(sheet: &Sheet<'_>, bytes: &[u8], rows: Rows) -> Result<(), Refusal>
-    requires rows_within { RowsWithin (length bytes.now) rows }
-    ensures { result ≡ first_alternative_fault (parameters_of sheet.now) (alternatives_in bytes.now rows) }
+pub fn first_fault(sheet: &Sheet<'_>, asked: KeptQuery<'_>) -> Result<(), Refusal>
+    ensures { result ≡ first_alternative_fault (parameters_of sheet.now) (alternatives_in asked.entry.bytes.now asked.entry.rows.now) }
 {
-    for row in &rows.rows[..rows.count] {
-        row_fault(sheet, bytes, *row)?;
+    for row in &asked.rows.rows[..asked.rows.count] {
+        row_fault(sheet, asked.bytes, *row)?;
     }
     Ok(())
 }

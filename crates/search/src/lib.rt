@@ -8,7 +8,7 @@ mod says;
 pub use faults::first_fault;
 pub use says::rows_say;
 
-// What a text asks under a kind: the number of an operator, and how many bytes stand before the value.
+// What a text asks under a kind: the number of an operator, as definitions of tests have it, and how many bytes stand before the value.
 #[derive(Clone, Copy)]
 pub struct Prefixed {
     pub operator: u8,

@@ -7,13 +7,13 @@ ghost use Rattle.card.specs.Card.{entries_of};
 ghost use Rattle.judge.specs.Sets.{values_at};
 ghost use Rattle.judge.specs.Verdicts.{some_value};
 ghost use Rattle.search.specs.Meaning.{text_says, says_at, alternative_says};
-ghost use Rattle.query.specs.Rows.{alternative_in, rows_say, RowWithin, RowsWithin};
+ghost use Rattle.query.specs.Rows.{alternative_in, rows_say, RowWithin};
 
 use crate::asked::asked_of;
 use base::kind::Kind;
 use card::Card;
 use judge::Chosen;
-use query::{Row, Rows};
+use query::{KeptQuery, Row};
 use sheet::Sheet;
 
 // Whether some text under a parameter is a token that is asked for.
@@ -46,10 +46,10 @@ fn text_says(card: &Card<'_>, index: u8, kind: u8, split: usize, text: &[u8]) ->
 fn says_at(sheet: &Sheet<'_>, card: &Card<'_>, name: &[u8], split: usize, text: &[u8]) -> bool
     ensures { result ≡ says_at (find 0 name.now (parameters_of sheet.now)) split text.now (entries_of card.now) }
 {
-    match sheet.find(0, name) {
-        Some(found) => text_says(card, found.index, found.kind, split, text),
-        None => false,
-    }
+    let Some(found) = sheet.find(0, name) else {
+        return false;
+    };
+    text_says(card, found.index, found.kind, split, text)
 }
 
 // What the alternative that a row keeps says, or true where its pair is met already.
@@ -94,13 +94,12 @@ fn carried(last: bool, said: bool) -> bool
 }
 
 // What the query that rows keep says of a well-formed card.
-pub fn rows_say(sheet: &Sheet<'_>, card: &Card<'_>, bytes: &[u8], rows: Rows) -> bool
-    requires rows_within { RowsWithin (length bytes.now) rows }
-    ensures { result ≡ rows_say (alternative_says (parameters_of sheet.now) (entries_of card.now)) bytes.now rows }
+pub fn rows_say(sheet: &Sheet<'_>, card: &Card<'_>, asked: KeptQuery<'_>) -> bool
+    ensures { result ≡ rows_say (alternative_says (parameters_of sheet.now) (entries_of card.now)) asked.entry.bytes.now asked.entry.rows.now }
 {
     let mut met = false;
-    for row in &rows.rows[..rows.count] {
-        let said = row_says(met, sheet, card, bytes, *row);
+    for row in &asked.rows.rows[..asked.rows.count] {
+        let said = row_says(met, sheet, card, asked.bytes, *row);
         if is_unmet(row.last, said) {
             return false;
         }

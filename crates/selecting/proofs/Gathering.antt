@@ -4,7 +4,7 @@
 -- stays, and where it is refused the loop and the run both stop at its index. There are no more
 -- numbers than cards seen (`few`), so the buffer has room. A card with a verdict is well formed (`judged_well_formed`).
 -- Assumes nothing.
-use Rattle.std.specs.Prelude.{Err, Ok, Result}
+use Rattle.std.specs.Prelude.{Err, Ok, Result, MatchResult, IsErrAnd}
 use Prim.Native.Nat.{ℕ, suc, ◌+◌, ◌-◌, ◌*◌, ◌/◌, ◌%◌, ◌≤◌, ◌<◌, zero-le}
 use native.Mathlib.Nat.{sub-zero}
 use native.Mathlib.Numerals.{add-one}
@@ -40,6 +40,19 @@ judged_well_formed q b y h =
 
 pub asked_alike : (q first : Question) (b : List ℕ) (v : Result Bool Reason) → q ≡ first → ((i : ℕ) → verdict_step v i ≡ card_verdict q i b) → (i : ℕ) → verdict_step v i ≡ card_verdict first i b
 asked_alike q first b v h e i = e i ∙ ap (λ (w : Question). card_verdict w i b) h
+
+-- ---- a verdict, and a refusal at its card's index
+
+pub verdict_same : (v : Result Bool Reason) (m : Result Bool Refusal) (Q : Reason → Refusal → Type 0) → MatchResult v (λ y. m ≡ Ok y) (λ e. IsErrAnd m (Q e)) → (y : Bool) → m ≡ Ok y → v ≡ Ok y
+verdict_same (Ok x) m Q h y e = let same : ◌≡◌ {A = Result Bool Refusal} (Ok x) (Ok y) = sym h ∙ e in let is : x ≡ y = cc in ap Ok is
+verdict_same (Err x) (Ok z) Q h y e = absurd h
+verdict_same (Err x) (Err z) Q h y e = absurd (let z : ◌≡◌ {A = ℕ} 0 1 = cc in omega arith)
+
+verdict_refused : (index : ℕ) (v : Result Bool Reason) (m : Result Bool Refusal) (Q : Reason → Refusal → Type 0) → MatchResult v (λ y. m ≡ Ok y) (λ e. IsErrAnd m (Q e))
+    → ((x : Reason) (r : Refusal) → Q x r → (r.reason ≡ x) × (r.place ≡ index)) → (r : Refusal) → m ≡ Err r → (v ≡ Err r.reason) × (r.place ≡ index)
+verdict_refused index (Ok x) m Q h q r e = absurd (let same : ◌≡◌ {A = Result Bool Refusal} (Ok x) (Err r) = sym h ∙ e in let z : ◌≡◌ {A = ℕ} 0 1 = cc in omega arith)
+verdict_refused index (Err x) (Ok z) Q h q r e = absurd h
+verdict_refused index (Err x) (Err z) Q h q r e = let is : z ≡ r = cc in let w = q x z h in (ap Err (sym w.0 ∙ ap (λ (s : Refusal). s.reason) is), sym (ap (λ (s : Refusal). s.place) is) ∙ w.1)
 
 -- ---- the loop
 
@@ -139,13 +152,17 @@ module _ (q : Question) (cards : List ℕ) where
       pub gathering_other : (y : Bool) → v ≡ Ok y → y ≡ false → Gathering q cards entry buffer (index + 1) count
       gathering_other y s t = next buffer count refl (omega (arith, g.few)) (split ∙ rw (s, t, onto_same later))
 
-      pub gathering_refused : (r : Refusal) → v ≡ Err r.reason → r.place ≡ index → Gathers q cards (Err r) buffer
+      gathering_refused : (r : Refusal) → v ≡ Err r.reason → r.place ≡ index → Gathers q cards (Err r) buffer
       gathering_refused r s t =
           let n : length cards / 512 ≡ g.total = omega (arith, g.size) in
           record {
             numbers = rw (n, t) (sym (split ∙ rw s));
             room = λ k z. absurd (let z : ◌≡◌ {A = ℕ} 0 1 = cc in omega arith);
           }
+
+      pub gathering_stopped : (m : Result Bool Refusal) (Q : Reason → Refusal → Type 0) → MatchResult v (λ y. m ≡ Ok y) (λ e. IsErrAnd m (Q e)) → ((x : Reason) (r : Refusal) → Q x r → (r.reason ≡ x) × (r.place ≡ index))
+          → (r : Refusal) → m ≡ Err r → Gathers q cards (Err r) buffer
+      gathering_stopped m Q k u r z = let w = verdict_refused index v m Q k u r z in gathering_refused r w.0 w.1
 
   pub gathering_end : {entry buffer : List ℕ} {index count : ℕ} → Gathering q cards entry buffer index count → length cards / 512 ≤ index → Gathers q cards (Ok count) buffer
   unfolding run_numbers blocks

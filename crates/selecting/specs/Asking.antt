@@ -1,23 +1,17 @@
 -- What holds of a question to the cards of a run, so that each can be judged: the kinds are those of the sheet, and check has passed it.
 -- Assumes nothing.
-use Rattle.std.specs.Prelude.{ℕ, ◌≡◌, ◌≤◌, List, length, Option, Ok}
+use Rattle.std.specs.Prelude.{ℕ, ◌≡◌, List, length, Ok}
 use Rattle.sheet.specs.Sheet.{parameters_of, read_sheet}
 use Rattle.sheet.specs.Find.{kinds_of}
 use Rattle.card_reader.specs.declared.Kept.{Kept}
-use Rattle.row_judge.specs.Saying.{Whole}
 use Rattle.row_judge.specs.Asking.{LentFor}
-use Rattle.row_opener.specs.Opening.{Opens}
-use Rattle.row_opener.specs.declared.Opened.{Opened}
 use Rattle.query.specs.Rows.{RowsWithin}
 use Rattle.query.specs.declared.Rows.{Rows}
 use Rattle.answer.specs.Passing.{Passing}
 
--- by the rows of a filter: they were opened, and what is kept is lent for them
-pub record RowsReady (sheet kinds text rows : List ℕ) (values : List (Option Opened)) (kept : Kept) : Type 0 where
+-- by the rows of a filter: what is kept is lent for them
+pub record RowsReady (sheet kinds rows : List ℕ) (kept : Kept) : Type 0 where
   pub kinds_are : kinds ≡ kinds_of (parameters_of sheet)
-  pub short : length text ≤ 1024
-  pub whole : Whole rows
-  pub opens : Opens kinds text rows values (length rows)
   pub lent : LentFor kinds rows kept
 
 -- by a filter's text

@@ -3,7 +3,7 @@ ghost use Rattle.std.specs.Prelude.{◌≡◌, ℕ, ◌≤◌, length};
 ghost use Rattle.sheet.specs.Sheet.{parameters_of};
 ghost use Rattle.syntax.specs.Reader.{read};
 ghost use Rattle.query.specs.Rows.{RowsWithin};
-ghost use Rattle.row_judge.specs.Saying.{Whole};
+ghost use Rattle.sheet.specs.Find.{kinds_of};
 ghost use Rattle.answer.specs.Operations.{Question};
 ghost use Rattle.answer.specs.Passing.{Passing, text_question, card_verdict};
 ghost use Rattle.one_card.specs.OneCard.{verdict_step, cells_question};
@@ -12,12 +12,12 @@ ghost use Rattle.selecting.specs.Asking.{RowsReady, TextReady, SearchReady};
 
 use card_reader::Kept;
 use one_card::{judge_by_rows, judge_by_text};
-use query::Rows;
+use query::{KeptQuery, Rows};
 use refusal::Reason;
-use row_judge::lend_for;
-use row_opener::{Opened, open_rows};
+use row_judge::{OpenedRows, lend_for};
 use searching::judge_by_search;
 use sheet::Sheet;
+use syntax::FilterText;
 
 // A question to the cards of a run.
 pub trait Asking {
@@ -34,58 +34,36 @@ pub trait Asking {
         ensures same { question self.new ≡ question self.old };
 }
 
-// By the rows of a filter: they are opened once for all cards, in values that are lent, and what is kept is lent for them.
+// By the rows of a filter: they were opened once for all cards, and what is kept is lent for them.
 #[derive(Drop)]
 pub struct ByRows<'a> {
     sheet: &'a Sheet<'a>,
-    kinds: [u8; 32],
-    text: &'a [u8],
-    rows: &'a [u32],
-    values: &'a [Option<Opened>],
+    opened: OpenedRows<'a>,
     kept: Kept,
 }
 
 impl<'a> ByRows<'a> {
-    pub fn new(
-        sheet: &'a Sheet<'a>,
-        text: &'a [u8],
-        rows: &'a [u32],
-        values: &'a mut [Option<Opened>],
-    ) -> Self
-        requires text_len_bound { length text.now ≤ 1024 }
-        requires whole { Whole rows.now }
-        requires rows_in_bounds { length rows.now ≤ length values.old }
-        ensures ready { RowsReady sheet.now result.kinds text.now rows.now result.values.now result.kept }
-        ensures parts { (result.sheet.now ≡ sheet.now) × (result.text.now ≡ text.now) × (result.rows.now ≡ rows.now) }
+    pub fn new(sheet: &'a Sheet<'a>, opened: OpenedRows<'a>) -> Self
+        requires { opened.kinds.now ≡ kinds_of (parameters_of sheet.now) }
+        ensures ready { RowsReady sheet.now result.opened.kinds.now result.opened.rows.now result.kept }
+        ensures parts { (result.sheet.now ≡ sheet.now) × (result.opened ≡ opened.entry) }
     {
-        let kinds = sheet.kinds();
-        open_rows(&kinds, text, rows, values);
-        let kept = lend_for(&kinds, rows);
+        let kept = lend_for(&opened);
         ByRows {
             sheet,
-            kinds,
-            text,
-            rows,
-            values,
+            opened,
             kept,
         }
     }
 }
 
 impl<'a> Asking for ByRows<'a> {
-    ghost ready = { λ asked. RowsReady asked.sheet.now asked.kinds asked.text.now asked.rows.now asked.values.now asked.kept };
+    ghost ready = { λ asked. RowsReady asked.sheet.now asked.opened.kinds.now asked.opened.rows.now asked.kept };
 
-    ghost question = { λ asked. cells_question (parameters_of asked.sheet.now) asked.text.now asked.rows.now };
+    ghost question = { λ asked. cells_question (parameters_of asked.sheet.now) asked.opened.filter.now asked.opened.rows.now };
 
     fn verdict(&mut self, card: &[u8]) -> Result<bool, Reason> {
-        judge_by_rows(
-            &self.kinds,
-            self.text,
-            self.rows,
-            self.values,
-            card,
-            &mut self.kept,
-        )
+        judge_by_rows(&self.opened, card, &mut self.kept)
     }
 }
 
@@ -94,11 +72,11 @@ impl<'a> Asking for ByRows<'a> {
 pub struct ByText<'a> {
     sheet: &'a Sheet<'a>,
     kinds: [u8; 32],
-    filter: &'a [u8],
+    filter: &'a FilterText<'a>,
 }
 
 impl<'a> ByText<'a> {
-    pub fn new(sheet: &'a Sheet<'a>, filter: &'a [u8]) -> Self
+    pub fn new(sheet: &'a Sheet<'a>, filter: &'a FilterText<'a>) -> Self
         requires { Passing sheet.now filter.now }
         ensures ready { TextReady sheet.now result.kinds filter.now }
         ensures parts { (result.sheet.now ≡ sheet.now) × (result.filter.now ≡ filter.now) }
@@ -153,6 +131,10 @@ impl<'a> Asking for BySearch<'a> {
     ghost question = { λ asked. rows_question (parameters_of asked.sheet.now) asked.bytes.now asked.rows };
 
     fn verdict(&mut self, card: &[u8]) -> Result<bool, Reason> {
-        judge_by_search(self.sheet, &self.kinds, self.bytes, self.rows, card)
+        let asked = KeptQuery {
+            bytes: self.bytes,
+            rows: &self.rows,
+        };
+        judge_by_search(self.sheet, &self.kinds, asked, card)
     }
 }

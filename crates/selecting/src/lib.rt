@@ -5,7 +5,6 @@ mod asking;
 
 ghost use Rattle.std.specs.Prelude.{◌≡◌, ◌%◌, ◌/◌, ◌≤◌, length};
 ghost use Rattle.sheet.specs.Sheet.{parameters_of};
-ghost use Rattle.row_judge.specs.Saying.{Whole};
 ghost use Rattle.one_card.specs.OneCard.{cells_question};
 ghost use Rattle.refusal.specs.Steps.{found};
 ghost use Rattle.answer.specs.Operations.{filter_question};
@@ -18,9 +17,11 @@ use card::Card;
 use checking::check;
 use preparing::fill;
 use refusal::{Reason, Refusal};
-use row_opener::Opened;
+use row_judge::{OpenedRows, WholeRows};
+use row_opener::open_rows;
 use searching::read_search;
 use sheet::Sheet;
+use syntax::FilterText;
 
 // Gathers the record numbers of the cards that match in the buffer, until a card is refused.
 fn gather<A: Asking>(asking: &mut A, cards: &[u8], buffer: &mut [u32]) -> Result<usize, Refusal>
@@ -34,19 +35,14 @@ fn gather<A: Asking>(asking: &mut A, cards: &[u8], buffer: &mut [u32]) -> Result
     for index in 0..cards.len() / 512 {
         let at = 512 * index;
         let card = &cards[at..at + 512];
-        match asking.verdict(card) {
-            Ok(yes) => {
-                if yes {
-                    buffer[count] = Card { bytes: card }.record_number();
-                    count += 1;
-                }
-            }
-            Err(reason) => {
-                return Err(Refusal {
-                    reason,
-                    place: index,
-                });
-            }
+        let verdict = asking.verdict(card);
+        let yes = verdict.map_err(move |reason| Refusal {
+            reason,
+            place: index,
+        })?;
+        if yes {
+            buffer[count] = Card { bytes: card }.record_number();
+            count += 1;
         }
     }
     Ok(count)
@@ -82,59 +78,45 @@ fn select_cards<A: Asking>(asking: &mut A, cards: &[u8], list: &mut [u32]) -> Re
     Ok(matches)
 }
 
-// Select by rows, which are opened once for the run in the values.
-fn select_opened(
+// Select by rows, which are opened once for the run, into N values, which are memory of a fixed size.
+fn select_in<const N: usize>(
     sheet: &Sheet<'_>,
-    filter: &[u8],
-    rows: &[u32],
-    values: &mut [Option<Opened>],
+    filter: &FilterText<'_>,
+    rows: &WholeRows<'_>,
     cards: &[u8],
     list: &mut [u32],
 ) -> Result<usize, Refusal>
-    requires filter_len_bound { length filter.now ≤ 1024 }
-    requires whole { Whole rows.now }
-    requires rows_in_bounds { length rows.now ≤ length values.old }
+    requires room { length rows.now ≤ N }
+    requires fixed { N ≤ 320 }
     ensures { Selects (found (cells_question (parameters_of sheet.now) filter.now rows.now)) cards.now list.old result list.new }
 {
-    let mut asking = ByRows::new(sheet, filter, rows, values);
+    let kinds = sheet.kinds();
+    let mut values = [None; N];
+    open_rows(&kinds, filter, rows.cells, &mut values);
+    let opened = OpenedRows {
+        kinds: &kinds,
+        filter,
+        rows: &rows.stated(),
+        values: &values,
+    };
+    let mut asking = ByRows::new(sheet, opened);
     select_cards(&mut asking, cards, list)
 }
 
-// The same of a few rows: their values take less time to clear.
-fn select_few(
-    sheet: &Sheet<'_>,
-    filter: &[u8],
-    rows: &[u32],
-    cards: &[u8],
-    list: &mut [u32],
-) -> Result<usize, Refusal>
-    requires filter_len_bound { length filter.now ≤ 1024 }
-    requires whole { Whole rows.now }
-    requires rows_len_bound { length rows.now ≤ 32 }
-    ensures { Selects (found (cells_question (parameters_of sheet.now) filter.now rows.now)) cards.now list.old result list.new }
-{
-    let mut values = [None; 32];
-    select_opened(sheet, filter, rows, &mut values, cards, list)
-}
-
-// The same of rows; good rows are that few.
+// Select by rows, into 32 values or 320: those of a few rows take less time to clear.
 fn select_rows(
     sheet: &Sheet<'_>,
-    filter: &[u8],
-    rows: &[u32],
+    filter: &FilterText<'_>,
+    rows: &WholeRows<'_>,
     cards: &[u8],
     list: &mut [u32],
 ) -> Result<usize, Refusal>
-    requires filter_len_bound { length filter.now ≤ 1024 }
-    requires whole { Whole rows.now }
-    requires rows_len_bound { length rows.now ≤ 320 }
     ensures { Selects (found (cells_question (parameters_of sheet.now) filter.now rows.now)) cards.now list.old result list.new }
 {
-    if rows.len() <= 32 {
-        return select_few(sheet, filter, rows, cards, list);
+    if rows.cells.len() <= 32 {
+        return select_in::<32>(sheet, filter, rows, cards, list);
     }
-    let mut values = [None; 320];
-    select_opened(sheet, filter, rows, &mut values, cards, list)
+    select_in::<320>(sheet, filter, rows, cards, list)
 }
 
 // Select by the rows of the filter, which are written once for the run.
@@ -146,10 +128,15 @@ fn select_by_rows(
 ) -> Result<usize, Refusal>
     ensures { Selects (filter_question sheet.now filter.now) cards.now list.old result list.new }
 {
+    // fixed memory, for the rows of the longest filter
     let mut cells = [0u32; 1024];
     let filled = fill(sheet, filter, &mut cells)?;
     let sheet = Sheet { bytes: sheet };
-    select_rows(&sheet, filter, &cells[0..filled], cards, list)
+    let filter = FilterText { bytes: filter };
+    let rows = WholeRows {
+        cells: &cells[0..filled],
+    };
+    select_rows(&sheet, &filter, &rows, cards, list)
 }
 
 // Select by the filter's text, which is read again for each card.
@@ -163,7 +150,8 @@ fn select_by_text(
 {
     check(sheet, filter)?;
     let sheet = Sheet { bytes: sheet };
-    let mut asking = ByText::new(&sheet, filter);
+    let filter = FilterText { bytes: filter };
+    let mut asking = ByText::new(&sheet, &filter);
     select_cards(&mut asking, cards, list)
 }
 
@@ -194,6 +182,7 @@ pub fn select_search(
 ) -> Result<usize, Refusal>
     ensures { Selects (search_question sheet.now text.now) cards.now list.old result list.new }
 {
+    // fixed memory, for the longest search string
     let mut bytes = [0u8; 1024];
     let rows = read_search(sheet, text, &mut bytes)?;
     let sheet = Sheet { bytes: sheet };

@@ -97,11 +97,6 @@ module _ (a c : ℕ) (same : Bool) where
     unfolding clashes
     clash_asked_top e = rw (h, e)
 
-    module _ (n : c ≡ 0 → ⊥) where
-      pub clash_top : a ≡ 0 → true ≡ clashes a c same
-      unfolding clashes
-      clash_top e = rw (h, e, or-true (eqb c 0))
-
 -- ---- a parent
 
 module _ (ps : List Parameter) (k c : ℕ) where

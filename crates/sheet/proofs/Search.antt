@@ -8,14 +8,21 @@ use mathlib.Core.Bool.{true, false, ◌&&◌, and-false}
 use lib.Dec.{eqb}
 use borrow.Author.Tests.{eq-eqb, ne_eqb}
 use mathlib.Core.List.{List, [], ◌∷◌}
+use Rattle.std.specs.declared.iter.Enumerate.{Enumerate}
 use Rattle.std.specs.Option.{option_map, option_map_or}
 use Rattle.std.specs.List.{slice_get}
 use Rattle.base.specs.Lists.{equal}
 use Rattle.sheet.specs.Sheet.{Parameter, kind_at, parameter}
-use Rattle.block.specs.Walking.{made}
+use Rattle.block.specs.Walking.{made, coming}
 use Rattle.block.specs.declared.walker.Item.{Item}
+use Rattle.block.specs.declared.walker.Walker.{Walker}
 use Rattle.sheet.specs.declared.Found.{Found}
 use Rattle.sheet.specs.Find.{found_at, find_from, find}
+
+-- ---- counted from 0: the first parameter has the index 0, and all are to come
+
+pub counted_start : (s t : Enumerate Walker) (x : Walker) {ps : List Parameter} → s ≡ t → t.count ≡ 0 → t.iter ≡ x → coming parameter x ≡ ps → (s.count ≡ 0) × (coming parameter s.iter ≡ ps)
+counted_start s t x e n i h = (ap (λ (r : Enumerate Walker). r.count) e ∙ n, ap (λ (r : Enumerate Walker). coming parameter r.iter) e ∙ ap (coming parameter) i ∙ h)
 
 -- ---- by name
 

@@ -1,11 +1,11 @@
 // Parameter sheets: blocks of 512 bytes that list the parameters of a catalogue, each with its kind, its bundle and its name. A
-// reader asks `Sheet::read` first; the parameters of a sheet are then found by name with `find`, and `kinds` gives their kinds by index. A parameter is an item of the block: its tag is its kind (1 string, 2 number, 3 date, 4 token, 5 reference, 6 period, 7
-// bundle), its mark its bundle (0, or a bundle's index plus 1), and its text its name.
+// reader asks `Sheet::read` first; the parameters of a sheet are then found by name with `find`, and `kinds` gives their kinds by index.
+// A parameter is an item of the block: its tag is its kind (1 string, 2 number, 3 date, 4 token, 5 reference, 6 period, 7 bundle), its
+// mark its bundle (0, or a bundle's index plus 1), and its text its name.
 #![tactic(auto)]
 
 ghost use Rattle.std.specs.Prelude.{◌≡◌, ℕ, List, ◌≤◌, ◌<◌, length, IfSome, Err, Ok, IfOk, IfErr};
 ghost use Rattle.base.specs.Kinds.{kind_number};
-ghost use Rattle.block.specs.Seal.{HasSize};
 ghost use Rattle.sheet.specs.Sheet.{parameter, parameter_count, parameters_of, is_kind, is_parameter, are_parameters, clashes, absent, distinct, kind_at, has_parent, have_parents, are_right, sheet_layout, read_sheet};
 ghost use Rattle.block.specs.Walking.{coming};
 ghost use Rattle.sheet.specs.Tables.{TableBy};
@@ -13,13 +13,14 @@ ghost use Rattle.sheet.specs.Find.{find, enter, kinds_of, parents_of};
 
 use base::kind::Kind;
 use base::name::is_name;
-use block::{Flaw, Item, Walker};
+use block::{Flaw, Form, Item, Walker};
 use std::marker::Model;
 
 // A parameter that is found by its name: its index and its kind.
 #[derive(Clone, Copy)]
 pub struct Found {
     pub index: u8,
+    // by its number, as definitions make it (`found_at`)
     pub kind: u8,
 }
 
@@ -39,10 +40,7 @@ fn may_stand(marked: bool, kind: Kind) -> bool
 fn is_kind(marked: bool, kind: u8) -> bool
     ensures { result ≡ is_kind marked kind }
 {
-    match Kind::of(kind) {
-        Some(kind) => may_stand(marked, kind),
-        None => false,
-    }
+    Kind::of(kind).is_some_and(|kind| may_stand(marked, kind))
 }
 
 // Whether a kind is right, and a name has at most 30 bytes and is one by the rule.
@@ -80,7 +78,7 @@ fn absent(mut parameters: Walker<'_>, bundle: u8, name: &[u8]) -> bool
 fn distinct(mut parameters: Walker<'_>) -> bool
     ensures { result ≡ distinct (coming parameter parameters.entry) }
 {
-    // no for: the walk that is left, over those behind the parameter, is asked too
+    // no for: `absent` is asked about the walk behind this parameter, which a `for` would hold
     while let Some(p) = parameters.next() {
         if !absent(parameters, p.mark, p.text) {
             return false;
@@ -122,11 +120,16 @@ fn are_right(parameters: Walker<'_>, marked: bool) -> bool
 }
 
 // Whether layout, kinds, names and bundles of 512 bytes are a sheet's.
-fn sheet_layout(sheet: &[u8]) -> bool
-    requires { HasSize sheet.now }
+fn sheet_layout(sheet: &[u8; 512]) -> bool
     ensures { result ≡ sheet_layout sheet.now }
 {
-    if !block::has_either(sheet, 0x50, 0x51, 1, 32) {
+    let form = Form {
+        plain: 0x50,
+        marked: 0x51,
+        at: 1,
+        most: 32,
+    };
+    if !block::has_either(sheet, form) {
         return false;
     }
     are_right(
@@ -160,21 +163,23 @@ impl<'a> Sheet<'a> {
         ensures read { IfOk result (λ sheet. (sheet ≡ bytes.now) × (read_sheet bytes.now ≡ Ok tt)) }
         ensures flaw { IfErr result (λ flaw. read_sheet bytes.now ≡ Err flaw) }
     {
-        block::check(bytes)?;
-        if sheet_layout(bytes) {
+        let block = block::check(bytes)?;
+        if sheet_layout(block) {
             return Ok(Sheet { bytes });
         }
         Err(Flaw::Layout)
     }
 
     // How many parameters it has.
+    #[tactic(auto, using(crate::proofs::Read::sheet_length), unfolding(crate::specs::Sheet::parameter_count))]
     pub fn parameter_count(&self) -> u8
         ensures { result ≡ parameter_count self.now }
     {
         self.bytes[1]
     }
 
-    // Its parameters.
+    // Its parameters. `Card::entries` is alike in shape: another model, and another start, in one literal each.
+    #[tactic(auto, using(crate::proofs::Read::sheet_length))]
     fn parameters(&self) -> Walker<'a>
         ensures parameters { coming parameter result ≡ parameters_of self.now }
         ensures most { length (parameters_of self.now) ≤ 32 }
@@ -191,17 +196,18 @@ impl<'a> Sheet<'a> {
         ensures found { result ≡ find bundle name.now (parameters_of self.now) }
         ensures below { IfSome result (λ found. found.index < 32) }
     {
-        let mut index: u8 = 0;
-        for p in self.parameters() {
+        for (index, p) in self.parameters().enumerate() {
             if p.mark == bundle && p.text == name {
-                return Some(Found { index, kind: p.tag });
+                return Some(Found {
+                    index: index as u8,
+                    kind: p.tag,
+                });
             }
-            index += 1;
         }
         None
     }
 
-    // Where names are looked up inside what a name names: a bundle's index plus 1, or 255 where it names none.
+    // Where names are looked up inside what a name names: a bundle's index plus 1, or the definition's 255 (`nowhere`) where it names none.
     pub fn enter(&self, bundle: u8, name: &[u8]) -> u8
         ensures { result ≡ enter (parameters_of self.now) bundle name.now }
     {
@@ -228,6 +234,7 @@ impl<'a> Sheet<'a> {
         ensures kinds { result ≡ kinds_of (parameters_of self.now) }
         ensures well_formed { read_sheet self.now ≡ Ok tt }
     {
+        // opens the model, so that its invariant can be told
         let _ = &self.bytes;
         self.table(|p| p.tag)
     }

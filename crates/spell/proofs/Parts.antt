@@ -2,17 +2,16 @@
 -- Assumes nothing.
 use Prim.Native.Nat.{ℕ, ◌+◌, ◌≤◌}
 use native.Mathlib.Omega.{arith}
-use mathlib.Core.Path.{◌≡◌, refl}
+use mathlib.Core.Path.{◌≡◌, refl, sym, ap}
 use mathlib.Core.List.{List, [], ◌++◌}
 use lib.ListN.{length}
 use Rattle.base.specs.Ascii.{ascii}
 use Rattle.syntax.specs.declared.Connective.{Connective}
-use Rattle.syntax.specs.declared.RawTest.{RawTest}
-use Rattle.plain.specs.Plain.{connective_text}
+use Rattle.syntax.specs.Tree.{Test}
+use Rattle.plain.specs.Plain.{connective_text, plain_test}
 use Rattle.base.specs.Writing.{Room, Puts}
-use Rattle.plain.specs.Writing.{test_text}
 use Rattle.spell.specs.Walks.{choice_text, member_text}
-use Rattle.base.proofs.Writing.{lent, back, Wrote, wrote_end, first_room, first-within, last_room, last_wrote}
+use Rattle.base.proofs.Writing.{room_same, puts_same, lent, back, Wrote, wrote_end, first_room, first-within, last_room, last_wrote}
 
 -- ---- a name and "["
 
@@ -44,25 +43,25 @@ module _ (n out : List ℕ) (h : Room (choice_text n) out) where
 
 -- ---- "]." and a test
 
-module _ (xs : List ℕ) (t : RawTest) (out : List ℕ) (h : Room (member_text xs t) out) where
-  member_parts : Room (ascii "]." ++ test_text xs t) out
+module _ (t : Test) (out : List ℕ) (h : Room (member_text t) out) where
+  member_parts : Room (ascii "]." ++ plain_test t) out
   unfolding member_text
   member_parts = h
 
   pub dot_room : Room (ascii "].") out
-  dot_room = first_room (ascii "].") (test_text xs t) out member_parts
+  dot_room = first_room (ascii "].") (plain_test t) out member_parts
 
   module _ {out₁ : List ℕ} {k : ℕ} (p : Puts (ascii "].") out out₁ k) where
     pub dot_within : k ≤ length out₁
-    dot_within = first-within (ascii "].") (test_text xs t) out member_parts p
+    dot_within = first-within (ascii "].") (plain_test t) out member_parts p
 
-    pub member_room : Room (test_text xs t) (lent out₁ k)
-    member_room = last_room (ascii "].") (test_text xs t) out member_parts p
+    pub member_room : Room (plain_test t) (lent out₁ k)
+    member_room = last_room (ascii "].") (plain_test t) out member_parts p
 
-    module _ {exit : List ℕ} {m : ℕ} (q : Puts (test_text xs t) (lent out₁ k) exit m) where
-      member_wrote : Wrote (member_text xs t) [] out (back out₁ k exit) (k + m)
+    module _ {exit : List ℕ} {m : ℕ} (q : Puts (plain_test t) (lent out₁ k) exit m) where
+      member_wrote : Wrote (member_text t) [] out (back out₁ k exit) (k + m)
       unfolding member_text
-      member_wrote = last_wrote (ascii "].") (test_text xs t) out member_parts p q
+      member_wrote = last_wrote (ascii "].") (plain_test t) out member_parts p q
 
       pub member-within : k + m ≤ length out
       member-within = omega (arith, member_wrote.within, member_wrote.long)
@@ -70,7 +69,7 @@ module _ (xs : List ℕ) (t : RawTest) (out : List ℕ) (h : Room (member_text x
       pub member_long : length (back out₁ k exit) ≡ length out
       member_long = member_wrote.long
 
-      pub member_puts : Puts (member_text xs t) out (back out₁ k exit) (k + m)
+      pub member_puts : Puts (member_text t) out (back out₁ k exit) (k + m)
       member_puts = wrote_end member_wrote refl
 
 -- ---- a connective
@@ -89,3 +88,12 @@ module _ (a : Connective) where
 
     pub or_puts : {out exit : List ℕ} {n : ℕ} → Puts (ascii " or ") out exit n → Puts (connective_text a) out exit n
     or_puts p = rw e p
+
+-- ---- the name by another list that is the same
+
+module _ {w v : List ℕ} (e : w ≡ v) where
+  pub choice_room_named : {out : List ℕ} → Room (choice_text v) out → Room (choice_text w) out
+  choice_room_named = room_same (ap choice_text (sym e))
+
+  pub choice_named : {out exit : List ℕ} {n : ℕ} → Puts (choice_text w) out exit n → Puts (choice_text v) out exit n
+  choice_named = puts_same (ap choice_text e)

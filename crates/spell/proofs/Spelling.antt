@@ -61,7 +61,7 @@ module _ (xs : List ℕ) (p : ℕ) (s : RunEnd is_space xs 0 p) where
 
 -- ---- measuring
 
-module _ (xs out : List ℕ) (l : length xs ≤ 1024) (f : IsFilter xs) (n : length out ≡ 1024) where
+module _ (xs out : List ℕ) (f : IsFilter xs) (n : length xs ≤ length out) where
   pub measure_room : TextRoom xs out
   measure_room = record { tree = f.tree; reads = f.reads; room = record { fits = omega (arith, never_longer xs f.tree ((read_iff xs f.tree).0 f.reads)) } }
 
@@ -119,36 +119,26 @@ module _ (xs buffer : List ℕ) (from n : ℕ) (t : TextLength xs n) where
 -- ---- the whole
 
 module _ (text buffer : List ℕ) (from : ℕ) where
-  wrong_size_lem : (eqb (length text) 0 || ltb 1024 (length text)) ≡ true → SpellsInto text buffer from wrong_size buffer
+  pub spell_wrong : (eqb (length text) 0 || ltb 1024 (length text)) ≡ true → SpellsInto text buffer from wrong_size buffer
   unfolding outcome bytes
-  wrong_size_lem e = record { answers = rw e; bytes_are = rw e }
+  spell_wrong e = record { answers = rw e; bytes_are = rw e }
 
-  pub spell_empty : length text ≡ 0 → SpellsInto text buffer from wrong_size buffer
-  spell_empty h = wrong_size_lem (rw (eq-eqb (length text) 0 h))
-
-  module _ (n : length text ≡ 0 → ⊥) where
-    pub spell_over : 1024 < length text → SpellsInto text buffer from wrong_size buffer
-    spell_over h = wrong_size_lem (rw (ne_eqb (length text) 0 n, lt-ltb 1024 (length text) h))
-
-    module _ (l : length text ≤ 1024) where
-      right_size : (eqb (length text) 0 || ltb 1024 (length text)) ≡ false
-      right_size = rw (ne_eqb (length text) 0 n, le-ltb 1024 (length text) l)
-
-      module _ (r : Result ⊤ Refusal) (e : r ≡ found deepest most_tests text) where
-        pub spell_failed : (p : Refusal) → r ≡ Err p → SpellsInto text buffer from (Err p) buffer
-        unfolding outcome bytes
-        spell_failed p h =
-            let w = found_failed text r e p h in
-            let m : read text ≡ none = not_read (read text) refl w.0 in
-            record { answers = rw (right_size, m) (ap (λ (x : Refusal). Err x) w.1); bytes_are = rw (right_size, m) }
-          where
-            not_read : (o : Option Tree) → read text ≡ o → ((f : Tree) → Spells text f → ⊥) → read text ≡ none
-            not_read (some f) k z = absurd (z f ((read_iff text f).0 k))
-            not_read none k z = k
-
-      pub spell_placed : {o : Result ℕ Refusal} {exit : List ℕ} → PlacedInto text buffer from o exit → SpellsInto text buffer from o exit
+  module _ (right_size : (eqb (length text) 0 || ltb 1024 (length text)) ≡ false) where
+    module _ (r : Result ⊤ Refusal) (e : r ≡ found deepest most_tests text) where
+      pub spell_failed : (p : Refusal) → r ≡ Err p → SpellsInto text buffer from (Err p) buffer
       unfolding outcome bytes
-      spell_placed p = record { answers = p.answers ∙ rw (right_size, p.reads); bytes_are = p.bytes_are ∙ rw (right_size, p.reads) }
+      spell_failed p h =
+          let w = found_failed text r e p h in
+          let m : read text ≡ none = not_read (read text) refl w.0 in
+          record { answers = rw (right_size, m) (ap (λ (x : Refusal). Err x) w.1); bytes_are = rw (right_size, m) }
+        where
+          not_read : (o : Option Tree) → read text ≡ o → ((f : Tree) → Spells text f → ⊥) → read text ≡ none
+          not_read (some f) k z = absurd (z f ((read_iff text f).0 k))
+          not_read none k z = k
+
+    pub spell_placed : {o : Result ℕ Refusal} {exit : List ℕ} → PlacedInto text buffer from o exit → SpellsInto text buffer from o exit
+    unfolding outcome bytes
+    spell_placed p = record { answers = p.answers ∙ rw (right_size, p.reads); bytes_are = p.bytes_are ∙ rw (right_size, p.reads) }
 
 pub found_is : (text : List ℕ) (r : Result ⊤ Refusal) → r ≡ found deepest most_tests text → r ≡ (Ok tt) → IsFilter text
 found_is text r e h = let s = found_filter text r e h in record { tree = s.0; reads = (read_iff text s.0).1 s.1 }

@@ -31,7 +31,6 @@ use Rattle.syntax.proofs.Complete.{item_rise, filter_rise, test_step, opened-ste
 use Rattle.syntax.proofs.Tests.{TestDerived, test_derived}
 use Rattle.plain.specs.Plain.{connective_text, in_round_if, plain_test, plain, operand}
 use Rattle.base.specs.Writing.{Room, Puts}
-use Rattle.plain.specs.Writing.{test_text}
 use Rattle.spell.specs.Walks.{RoomFor, Spelt, joined, choice_text, member_text}
 use Rattle.spell.specs.declared.Written.{Written}
 use Rattle.plain.proofs.Length.{operand_short}
@@ -280,12 +279,12 @@ module _ (d : ℕ) (xs : List ℕ) (close p : ℕ) (out : List ℕ) (r : RoomFor
     pub item-operator : t.operator < 19
     item-operator = head_known xs close p t (sym e ∙ o ∙ ap Some i)
 
-    pub item_test_room : Room (test_text xs t) out
-    unfolding test_text plain
+    pub item_test_room : Room (plain_test (test_of xs t)) out
+    unfolding plain
     item_test_room = room_same (ap plain (sym (same_tree found))) r.room
 
-    pub item_test_spelt : {exit : List ℕ} {n : ℕ} → Puts (test_text xs t) out exit n → Spelt plain (item_at d xs close p) out exit (record { end = t.value.next; length = n; join = false })
-    unfolding test_text plain
+    pub item_test_spelt : {exit : List ℕ} {n : ℕ} → Puts (plain_test (test_of xs t)) out exit n → Spelt plain (item_at d xs close p) out exit (record { end = t.value.next; length = n; join = false })
+    unfolding plain
     item_test_spelt q = record { tree = test (test_of xs t); reads = test_step xs close p d (sym e ∙ o ∙ ap Some i); puts = q; join = refl }
 
   module _ (g : Head) (o : h ≡ Some g) (q : ℕ) (b : Bool) (i : g ≡ Head.Open q b) where
@@ -337,8 +336,8 @@ chosen xs close p n (parsed m h) q f e = go (member_after xs close m) refl e
     go None a b = never (rw a at b)
 
 -- the text of such a test: what stands before the filter, the filter, what stands after it
-chosen_text : (xs : List ℕ) (p : ℕ) (n : List ℕ) (f : Tree) (t : RawTest) → plain (bracketed p n f (test_of xs t)) ≡ choice_text n ++ (plain f ++ member_text xs t)
-unfolding plain choice_text member_text test_text
+chosen_text : (xs : List ℕ) (p : ℕ) (n : List ℕ) (f : Tree) (t : RawTest) → plain (bracketed p n f (test_of xs t)) ≡ choice_text n ++ (plain f ++ member_text (test_of xs t))
+unfolding plain choice_text member_text
 chosen_text xs p n f t = sym (append_assoc n (ascii "[") (plain f ++ (ascii "]." ++ plain_test (test_of xs t))))
 
 module _ (d : ℕ) (xs : List ℕ) (close p u : ℕ) (out : List ℕ) (r : RoomFor plain (chosen_at d xs close p u) out) where
@@ -352,15 +351,15 @@ module _ (d : ℕ) (xs : List ℕ) (close p u : ℕ) (out : List ℕ) (r : RoomF
   unfolding chosen_at
   choice = chosen xs close p bundle (filter_at d xs square from) r.end r.tree r.reads
 
-  chosen_parts : Room (choice_text bundle ++ (plain choice.tree ++ member_text xs choice.test)) out
+  chosen_parts : Room (choice_text bundle ++ (plain choice.tree ++ member_text (test_of xs choice.test))) out
   chosen_parts = room_same (ap plain choice.is ∙ chosen_text xs p bundle choice.tree choice.test) r.room
 
   pub chosen_room : Room (choice_text bundle) out
-  chosen_room = first_room (choice_text bundle) (plain choice.tree ++ member_text xs choice.test) out chosen_parts
+  chosen_room = first_room (choice_text bundle) (plain choice.tree ++ member_text (test_of xs choice.test)) out chosen_parts
 
   module _ {out₁ : List ℕ} {n : ℕ} (a : Puts (choice_text bundle) out out₁ n) where
     pub chosen-within : n ≤ length out₁
-    chosen-within = first-within (choice_text bundle) (plain choice.tree ++ member_text xs choice.test) out chosen_parts a
+    chosen-within = first-within (choice_text bundle) (plain choice.tree ++ member_text (test_of xs choice.test)) out chosen_parts a
 
     module _ (q : ℕ) (b : RunEnd is_space xs (u + 1) q) where
       start : filter_at d xs square q ≡ filter_at d xs square from
@@ -372,7 +371,7 @@ module _ (d : ℕ) (xs : List ℕ) (close p u : ℕ) (out : List ℕ) (r : RoomF
             end = choice.end;
             tree = choice.tree;
             reads = start ∙ choice.reads;
-            room = second_room (choice_text bundle) (plain choice.tree) (member_text xs choice.test) out chosen_parts a;
+            room = second_room (choice_text bundle) (plain choice.tree) (member_text (test_of xs choice.test)) out chosen_parts a;
           }
 
       module _ {exit : List ℕ} {w : Written} (s : Spelt plain (filter_at d xs square q) (lent out₁ n) exit w) where
@@ -383,7 +382,7 @@ module _ (d : ℕ) (xs : List ℕ) (close p u : ℕ) (out : List ℕ) (r : RoomF
         inner_puts = puts_same (ap plain (same_tree both)) s.puts
 
         pub chosen-inner-within : n + w.length ≤ length (back out₁ n exit)
-        chosen-inner-within = omega (arith, (second_wrote (choice_text bundle) (plain choice.tree) (member_text xs choice.test) out chosen_parts a inner_puts).within)
+        chosen-inner-within = omega (arith, (second_wrote (choice_text bundle) (plain choice.tree) (member_text (test_of xs choice.test)) out chosen_parts a inner_puts).within)
 
         module _ (f : Option RawTest) (m : f ≡ member_after xs close w.end) where
           member_is : f ≡ Some choice.test
@@ -396,13 +395,13 @@ module _ (d : ℕ) (xs : List ℕ) (close p u : ℕ) (out : List ℕ) (r : RoomF
             same_test : choice.test ≡ t
             same_test = let y = member_is in cc
 
-            pub chosen-member_room : Room (member_text xs t) (lent (back out₁ n exit) (n + w.length))
+            pub chosen-member_room : Room (member_text (test_of xs t)) (lent (back out₁ n exit) (n + w.length))
             chosen-member_room =
-                room_same (ap (member_text xs) same_test) (third_room (choice_text bundle) (plain choice.tree) (member_text xs choice.test) out chosen_parts a inner_puts)
+                room_same (ap (λ (r : RawTest). member_text (test_of xs r)) same_test) (third_room (choice_text bundle) (plain choice.tree) (member_text (test_of xs choice.test)) out chosen_parts a inner_puts)
 
-            module _ {exit₂ : List ℕ} {k : ℕ} (c : Puts (member_text xs t) (lent (back out₁ n exit) (n + w.length)) exit₂ k) where
-              chosen_wrote : Wrote (choice_text bundle ++ (plain choice.tree ++ member_text xs choice.test)) [] out (back (back out₁ n exit) (n + w.length) exit₂) (n + w.length + k)
-              chosen_wrote = third_wrote (choice_text bundle) (plain choice.tree) (member_text xs choice.test) out chosen_parts a inner_puts (puts_same (ap (member_text xs) (sym same_test)) c)
+            module _ {exit₂ : List ℕ} {k : ℕ} (c : Puts (member_text (test_of xs t)) (lent (back out₁ n exit) (n + w.length)) exit₂ k) where
+              chosen_wrote : Wrote (choice_text bundle ++ (plain choice.tree ++ member_text (test_of xs choice.test))) [] out (back (back out₁ n exit) (n + w.length) exit₂) (n + w.length + k)
+              chosen_wrote = third_wrote (choice_text bundle) (plain choice.tree) (member_text (test_of xs choice.test)) out chosen_parts a inner_puts (puts_same (ap (λ (r : RawTest). member_text (test_of xs r)) (sym same_test)) c)
 
               pub chosen_long : length (back (back out₁ n exit) (n + w.length) exit₂) ≡ length out
               chosen_long = chosen_wrote.long

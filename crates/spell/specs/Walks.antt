@@ -2,13 +2,11 @@
 -- Assumes nothing.
 use Rattle.std.specs.Prelude.{ℕ, ◌≡◌, List, ◌++◌}
 use Rattle.base.specs.Ascii.{ascii}
-use Rattle.syntax.specs.Tree.{Tree}
+use Rattle.syntax.specs.Tree.{Test, Tree}
 use Rattle.syntax.specs.Reader.{Parsed, parsed}
 use Rattle.syntax.specs.declared.Connective.{Connective}
-use Rattle.syntax.specs.declared.RawTest.{RawTest}
-use Rattle.plain.specs.Plain.{connective_text, is_join, operand}
+use Rattle.plain.specs.Plain.{connective_text, is_join, plain_test, operand}
 use Rattle.base.specs.Writing.{Room, Puts}
-use Rattle.plain.specs.Writing.{test_text}
 use Rattle.spell.specs.declared.Written.{Written}
 
 -- a tree was parsed, and the part has room for its text
@@ -33,5 +31,5 @@ joined c f = connective_text c ++ operand f
 unfoldable pub choice_text : List ℕ → List ℕ
 choice_text n = n ++ ascii "["
 
-unfoldable pub member_text : List ℕ → RawTest → List ℕ
-member_text xs t = ascii "]." ++ test_text xs t
+unfoldable pub member_text : Test → List ℕ
+member_text t = ascii "]." ++ plain_test t

@@ -7,11 +7,12 @@ ghost use Rattle.std.specs.Prelude.{◌≡◌, ◌+◌, ◌≤◌, leb, length};
 ghost use Rattle.spell.specs.Spelling.{SpellsInto, IsFilter, TextRoom, TextSpelt, TextLength, PlacedInto};
 
 use place::find;
-use refusal::{Reason, Refusal};
-use syntax::scan::skip;
+use refusal::{Reason, Refusal, refuse};
+use syntax::FilterText;
 use walk::write_filter;
 
-// A position in the filter's text, how many brackets may still open around it, and the byte that closes the one around it.
+// A position in the filter's text, how many brackets may still open around it, and the byte that closes the one around it. That it lies in
+// the text is a clause, for `filter::Spot`'s reason.
 #[derive(Clone, Copy)]
 pub struct Spot {
     pub at: usize,
@@ -29,12 +30,11 @@ pub struct Written {
 }
 
 // Writes the plain spelling of a filter, and answers its length.
-fn write_text(filter: &[u8], out: &mut [u8]) -> usize
-    requires filter_len_bound { length filter.now ≤ 1024 }
-    requires text_room { TextRoom filter.now out.old }
+fn write_text(filter: &FilterText<'_>, out: &mut [u8]) -> usize
+    requires { TextRoom filter.now out.old }
     ensures { TextSpelt filter.now out.old out.new result }
 {
-    let start = skip(filter, 0);
+    let start = filter.skip(0);
     let written = write_filter(
         filter,
         Spot {
@@ -48,14 +48,13 @@ fn write_text(filter: &[u8], out: &mut [u8]) -> usize
 }
 
 // The length of a filter's plain spelling. It is no longer than the filter, so that it is written out to be measured.
-fn measure(filter: &[u8]) -> usize
-    requires filter_len_bound { length filter.now ≤ 1024 }
-    requires filter { IsFilter filter.now }
+fn measure(filter: &FilterText<'_>) -> usize
+    requires { IsFilter filter.now }
     ensures { TextLength filter.now result }
 {
     // fixed memory, for the longest filter
     let mut out = [0u8; 1024];
-    write_text(filter, &mut out)
+    write_text(filter, &mut out[..filter.len()])
 }
 
 // Whether so many bytes have room in a buffer of a size from a place on. Their sum might not fit, so it is not made.
@@ -69,9 +68,8 @@ fn has_room(size: usize, from: usize, length: usize) -> bool
 }
 
 // Writes the plain spelling of a filter into the buffer from a place on, if there is room.
-fn place_text(filter: &[u8], buffer: &mut [u8], from: usize) -> Result<usize, Refusal>
-    requires filter_len_bound { length filter.now ≤ 1024 }
-    requires filter { IsFilter filter.now }
+fn place_text(filter: &FilterText<'_>, buffer: &mut [u8], from: usize) -> Result<usize, Refusal>
+    requires { IsFilter filter.now }
     ensures { PlacedInto filter.now buffer.old from result buffer.new }
 {
     let length = measure(filter);
@@ -79,10 +77,7 @@ fn place_text(filter: &[u8], buffer: &mut [u8], from: usize) -> Result<usize, Re
         let written = write_text(filter, &mut buffer[from..]);
         return Ok(written);
     }
-    Err(Refusal {
-        reason: Reason::ShortBuffer,
-        place: length,
-    })
+    refuse(Reason::ShortBuffer, length)
 }
 
 // Writes the plain spelling of a filter into the buffer from a place on, and answers its length; or why not, and then the buffer is as
@@ -90,18 +85,9 @@ fn place_text(filter: &[u8], buffer: &mut [u8], from: usize) -> Result<usize, Re
 pub fn spell(filter: &[u8], buffer: &mut [u8], from: usize) -> Result<usize, Refusal>
     ensures { SpellsInto filter.now buffer.old from result buffer.new }
 {
-    if filter.len() == 0 {
-        return Err(Refusal {
-            reason: Reason::FilterSize,
-            place: 0,
-        });
-    }
-    if filter.len() > 1024 {
-        return Err(Refusal {
-            reason: Reason::FilterSize,
-            place: 0,
-        });
-    }
+    let Some(text) = FilterText::read(filter) else {
+        return refuse(Reason::FilterSize, 0);
+    };
     find(filter)?;
-    place_text(filter, buffer, from)
+    place_text(&text, buffer, from)
 }

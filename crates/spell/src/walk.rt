@@ -1,7 +1,6 @@
 // The walk that writes: a filter and an item call each other, and the text left and the nesting left fall. It goes over a text
 // that is known to be a filter.
 ghost use Rattle.std.specs.Prelude.{true, false, ◌≤◌, ◌<◌, length};
-ghost use Rattle.syntax.specs.Placed.{Placed};
 ghost use Rattle.syntax.specs.Reader.{item_at, filter_at, bracket_at, chosen_at};
 ghost use Rattle.plain.specs.Plain.{connective_text, plain, operand};
 ghost use Rattle.base.specs.Writing.{Room, Puts};
@@ -10,8 +9,7 @@ ghost use Rattle.spell.specs.Walks.{RoomFor, Spelt, joined, choice_text, member_
 use crate::{Spot, Written};
 use base::write_word;
 use plain::{bracket_join, write_test};
-use syntax::scan::skip;
-use syntax::{Connective, Head, RawTest, read_connective, read_head, read_member};
+use syntax::{Connective, FilterTest, FilterText, Head};
 
 // Writes a connective with a space on either side, and answers its length.
 fn write_connective(connective: Connective, out: &mut [u8]) -> usize
@@ -34,21 +32,18 @@ fn write_choice(name: &[u8], out: &mut [u8]) -> usize
 }
 
 // Writes what stands after a filter in square brackets, and answers its length.
-fn write_member(filter: &[u8], test: RawTest, out: &mut [u8]) -> usize
-    requires filter_len_bound { length filter.now ≤ 1024 }
-    requires placed { Placed filter.now test }
-    requires operator_bound { test.operator < 19 }
-    requires room { Room (member_text filter.now test) out.old }
-    ensures { Puts (member_text filter.now test) out.old out.new result }
+fn write_member(test: &FilterTest<'_>, out: &mut [u8]) -> usize
+    requires operator_bound { test.now.operator < 19 }
+    requires room { Room (member_text test.now) out.old }
+    ensures { Puts (member_text test.now) out.old out.new result }
 {
     let end = write_word(b"].", out);
-    end + write_test(filter, test, &mut out[end..])
+    end + write_test(test, &mut out[end..])
 }
 
 // Writes the filter in round brackets after not, which begins at a position inside them: "not(", the filter, ")".
 #[cycle(writing)]
-fn write_not(filter: &[u8], at: usize, levels: usize, out: &mut [u8]) -> Written
-    requires filter_len_bound { length filter.now ≤ 1024 }
+fn write_not(filter: &FilterText<'_>, at: usize, levels: usize, out: &mut [u8]) -> Written
     requires at_in_bounds { at ≤ length filter.now }
     requires room_for { RoomFor plain (bracket_at levels filter.now true at) out.old }
     ensures { Spelt plain (bracket_at levels filter.now true at) out.old out.new result }
@@ -66,7 +61,7 @@ fn write_not(filter: &[u8], at: usize, levels: usize, out: &mut [u8]) -> Written
     let end = start + inner.length;
     let last = write_word(b")", &mut out[end..]);
     Written {
-        end: skip(filter, inner.end) + 1,
+        end: filter.skip(inner.end) + 1,
         length: end + last,
         join: false,
     }
@@ -74,8 +69,7 @@ fn write_not(filter: &[u8], at: usize, levels: usize, out: &mut [u8]) -> Written
 
 // Writes the filter in round brackets, which begins at a position inside them; the brackets are left out.
 #[cycle(writing)]
-fn write_round(filter: &[u8], at: usize, levels: usize, out: &mut [u8]) -> Written
-    requires filter_len_bound { length filter.now ≤ 1024 }
+fn write_round(filter: &FilterText<'_>, at: usize, levels: usize, out: &mut [u8]) -> Written
     requires at_in_bounds { at ≤ length filter.now }
     requires room_for { RoomFor plain (bracket_at levels filter.now false at) out.old }
     ensures { Spelt plain (bracket_at levels filter.now false at) out.old out.new result }
@@ -90,7 +84,7 @@ fn write_round(filter: &[u8], at: usize, levels: usize, out: &mut [u8]) -> Writt
         out,
     );
     Written {
-        end: skip(filter, inner.end) + 1,
+        end: filter.skip(inner.end) + 1,
         length: inner.length,
         join: inner.join,
     }
@@ -98,8 +92,7 @@ fn write_round(filter: &[u8], at: usize, levels: usize, out: &mut [u8]) -> Writt
 
 // Writes the test of a member at a spot, after the filter in square brackets of the bundle whose name ends at `until`.
 #[cycle(writing)]
-fn write_chosen(filter: &[u8], spot: Spot, until: usize, out: &mut [u8]) -> Written
-    requires filter_len_bound { length filter.now ≤ 1024 }
+fn write_chosen(filter: &FilterText<'_>, spot: Spot, until: usize, out: &mut [u8]) -> Written
     requires at_le_until { spot.at ≤ until }
     requires until_in_bounds { until < length filter.now }
     requires room_for { RoomFor plain (chosen_at spot.levels filter.now spot.close spot.at until) out.old }
@@ -108,8 +101,8 @@ fn write_chosen(filter: &[u8], spot: Spot, until: usize, out: &mut [u8]) -> Writ
     let at = spot.at;
     let levels = spot.levels;
     let close = spot.close;
-    let start = write_choice(&filter[at..until], out);
-    let next = skip(filter, until + 1);
+    let start = write_choice(filter.part(at, until), out);
+    let next = filter.skip_after(until);
     let inner = write_filter(
         filter,
         Spot {
@@ -120,26 +113,25 @@ fn write_chosen(filter: &[u8], spot: Spot, until: usize, out: &mut [u8]) -> Writ
         &mut out[start..],
     );
     let end = start + inner.length;
-    let member = read_member(filter, close, inner.end);
-    match member {
-        Some(test) => {
-            let last = write_member(filter, test, &mut out[end..]);
-            let value = test.value;
-            Written {
-                end: value.next,
-                length: end + last,
-                join: false,
-            }
-        }
-        None => inner,
+    let Some(raw) = filter.read_member(close, inner.end) else {
+        return inner;
+    };
+    let test = FilterTest {
+        text: &*filter,
+        raw,
+    };
+    let last = write_member(&test, &mut out[end..]);
+    Written {
+        end: raw.value.next,
+        length: end + last,
+        join: false,
     }
 }
 
 // Writes the item at a spot: "a test, a filter in round brackets, or not followed by a filter in round brackets", or the test of a
 // member after its bundle's brackets.
 #[cycle(writing)]
-fn write_item(filter: &[u8], spot: Spot, out: &mut [u8]) -> Written
-    requires filter_len_bound { length filter.now ≤ 1024 }
+fn write_item(filter: &FilterText<'_>, spot: Spot, out: &mut [u8]) -> Written
     requires at_in_bounds { spot.at ≤ length filter.now }
     requires room_for { RoomFor plain (item_at spot.levels filter.now spot.close spot.at) out.old }
     ensures { Spelt plain (item_at spot.levels filter.now spot.close spot.at) out.old out.new result }
@@ -147,7 +139,7 @@ fn write_item(filter: &[u8], spot: Spot, out: &mut [u8]) -> Written
     let at = spot.at;
     let levels = spot.levels;
     let close = spot.close;
-    let Some(head) = read_head(filter, close, at) else {
+    let Some(head) = filter.read_head(close, at) else {
         return Written {
             end: at,
             length: 0,
@@ -155,11 +147,14 @@ fn write_item(filter: &[u8], spot: Spot, out: &mut [u8]) -> Written
         };
     };
     match head {
-        Head::Test(test) => {
-            let length = write_test(filter, test, out);
-            let value = test.value;
+        Head::Test(raw) => {
+            let test = FilterTest {
+                text: &*filter,
+                raw,
+            };
+            let length = write_test(&test, out);
             Written {
-                end: value.next,
+                end: raw.value.next,
                 length,
                 join: false,
             }
@@ -185,8 +180,7 @@ fn write_item(filter: &[u8], spot: Spot, out: &mut [u8]) -> Written
 
 // Writes the item at a spot as it stands after a connective: in brackets where it is a join.
 #[cycle(writing)]
-fn write_operand(filter: &[u8], spot: Spot, out: &mut [u8]) -> Written
-    requires filter_len_bound { length filter.now ≤ 1024 }
+fn write_operand(filter: &FilterText<'_>, spot: Spot, out: &mut [u8]) -> Written
     requires at_in_bounds { spot.at ≤ length filter.now }
     requires room_for { RoomFor operand (item_at spot.levels filter.now spot.close spot.at) out.old }
     ensures { Spelt operand (item_at spot.levels filter.now spot.close spot.at) out.old out.new result }
@@ -201,8 +195,12 @@ fn write_operand(filter: &[u8], spot: Spot, out: &mut [u8]) -> Written
 
 // Writes a connective and the item at a spot after it.
 #[cycle(writing)]
-fn write_joined(filter: &[u8], connective: Connective, spot: Spot, out: &mut [u8]) -> Written
-    requires filter_len_bound { length filter.now ≤ 1024 }
+fn write_joined(
+    filter: &FilterText<'_>,
+    connective: Connective,
+    spot: Spot,
+    out: &mut [u8],
+) -> Written
     requires at_in_bounds { spot.at ≤ length filter.now }
     requires room_for { RoomFor (joined connective) (item_at spot.levels filter.now spot.close spot.at) out.old }
     ensures { Spelt (joined connective) (item_at spot.levels filter.now spot.close spot.at) out.old out.new result }
@@ -218,8 +216,7 @@ fn write_joined(filter: &[u8], connective: Connective, spot: Spot, out: &mut [u8
 
 // Writes the filter at a spot: "one or more items joined by and or or", from left to right.
 #[cycle(writing)]
-pub fn write_filter(filter: &[u8], spot: Spot, out: &mut [u8]) -> Written
-    requires filter_len_bound { length filter.now ≤ 1024 }
+pub fn write_filter(filter: &FilterText<'_>, spot: Spot, out: &mut [u8]) -> Written
     requires at_in_bounds { spot.at ≤ length filter.now }
     requires room_for { RoomFor plain (filter_at spot.levels filter.now spot.close spot.at) out.old }
     ensures { Spelt plain (filter_at spot.levels filter.now spot.close spot.at) out.old out.new result }
@@ -229,7 +226,7 @@ pub fn write_filter(filter: &[u8], spot: Spot, out: &mut [u8]) -> Written
     let close = spot.close;
     let mut written = write_item(filter, Spot { at, levels, close }, out);
     // no for: where the next item begins is known when the one before it was read
-    while let Some(link) = read_connective(filter, written.end) {
+    while let Some(link) = filter.read_connective(written.end) {
         let length = written.length;
         let more = write_joined(
             filter,

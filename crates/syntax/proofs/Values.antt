@@ -8,7 +8,7 @@
 use Rattle.std.specs.Prelude.{Option, Some, None}
 use Prim.Native.Nat.{ℕ, suc, ◌+◌, ◌-◌, ◌≤◌, ◌<◌}
 use native.Mathlib.Omega.{arith}
-use native.Mathlib.Nat.{add-zero, le_refl, le_of_eq}
+use native.Mathlib.Nat.{add-zero, le_refl}
 use native.Mathlib.Numerals.{add-one}
 use mathlib.Core.Path.{◌≡◌, refl, sym, ap, subst, ◌∙◌}
 use mathlib.Core.Bool.{Bool, true, false, ◌||◌, or-true, or-false, true≢false, false≢true}
@@ -366,9 +366,9 @@ value_rise {xs} (string {p = p} {s = s} h q) = (omega arith, omega (arith, stand
 -- ---- as the code finds a value
 
 module _ (xs : List ℕ) (at : ℕ) where
-  pub value_end : at ≡ length xs → None ≡ value_at xs at
+  pub value_end : length xs ≤ at → None ≡ value_at xs at
   unfolding value_at
-  value_end h = rw (le-ltb at (length xs) (le_of_eq (sym h)))
+  value_end h = rw (le-ltb at (length xs) h)
 
   module _ (i : at ≤ length xs) (n : at ≡ length xs → ⊥) where
     inside : at < length xs

@@ -6,3 +6,4 @@ pub mod Grammar
 pub mod Scan
 pub mod Reader
 pub mod Placed
+pub mod Coding

@@ -2,6 +2,8 @@
 // Sheets, kinds and cards are no matter of this layer.
 #![tactic(auto)]
 
+mod filter_test;
+mod filter_text;
 pub mod scan;
 pub mod test;
 pub mod value;
@@ -9,6 +11,8 @@ pub mod value;
 ghost use Rattle.std.specs.Prelude.{◌≡◌, ◌≤◌, length};
 ghost use Rattle.syntax.specs.Scan.{open_at, choice_at, choice_or, head_at, test_in, member_at, member_after, connective_at, close_at};
 
+pub use filter_test::{FilterTest, ValueBytes};
+pub use filter_text::FilterText;
 use scan::{has, name_end, skip};
 use test::{is_name_run, read_test};
 
@@ -24,7 +28,7 @@ pub struct RawValue {
 }
 
 // A test as it stands in the text: its name from `at` up to `until`, its operator's number, its value. The operator stands
-// second, as a bracket's `not` does in `Head`: a byte there, so that no number is written in pieces.
+// second, as a bracket's `not` does in `Head`: a byte there, so that no number is written in pieces. It is a number, as definitions make it.
 #[derive(Clone, Copy)]
 pub struct RawTest {
     pub at: usize,
@@ -52,7 +56,7 @@ pub struct StringEnd {
 
 // What an item begins with: a whole test; a bracket, whose filter begins at the position, with not or without; or a name, which
 // ends at the position, and a square bracket.
-// No Option or Result: each of its three arms is a beginning, and where there is none it stands in a None.
+// Each of the three arms is a beginning: where no item begins, read_head answers None.
 #[derive(Clone, Copy)]
 pub enum Head {
     Test(RawTest),
@@ -61,7 +65,7 @@ pub enum Head {
 }
 
 // 01: a joining word.
-// No flag: of two words neither is the other's lack.
+// An enum and no bool: `and` is not the lack of `or`.
 #[derive(Clone, Copy)]
 pub enum Connective {
     And,
@@ -74,6 +78,9 @@ pub struct Link {
     pub next: usize,
     pub connective: Connective,
 }
+
+// That a position lies in the text is a clause of each function below, and of those in `scan`, `test` and `value`: of their 39 calls 18 begin at
+// another position than the caller's, where a type of text and position would have to be made and its fact proved.
 
 // A bracket that opens at a position: "(", or "not", spaces and "(", with the spaces after it.
 fn read_open(s: &[u8], at: usize) -> Option<Head>
@@ -113,21 +120,20 @@ fn read_bracket(s: &[u8], at: usize) -> Option<Head>
     requires { at ≤ length s.now }
     ensures { result ≡ choice_or (choice_at s.now at) (open_at s.now at) }
 {
-    match read_choice(s, at) {
-        Some(until) => Some(Head::Choice(until)),
-        None => read_open(s, at),
-    }
+    read_choice(s, at)
+        .map(Head::Choice)
+        .or_else(|| read_open(s, at))
 }
 
 // What an item begins with at a position, where `close` closes the bracket around the item.
-pub fn read_head(s: &[u8], close: u8, at: usize) -> Option<Head>
+#[tactic(auto, unfolding(crate::specs::Scan::head_at))]
+fn read_head(s: &[u8], close: u8, at: usize) -> Option<Head>
     requires { at ≤ length s.now }
     ensures { result ≡ head_at s.now close at }
 {
-    match read_test(s, close, at) {
-        Some(test) => Some(Head::Test(test)),
-        None => read_bracket(s, at),
-    }
+    read_test(s, close, at)
+        .map(Head::Test)
+        .or_else(|| read_bracket(s, at))
 }
 
 // The test that an item begins with, if it does.
@@ -153,7 +159,7 @@ fn read_dotted(s: &[u8], close: u8, at: usize) -> Option<RawTest>
 }
 
 // The test of a member after a filter in square brackets that ends at a position, where `close` closes the bracket around it.
-pub fn read_member(s: &[u8], close: u8, at: usize) -> Option<RawTest>
+fn read_member(s: &[u8], close: u8, at: usize) -> Option<RawTest>
     requires { at ≤ length s.now }
     ensures { result ≡ member_after s.now close at }
 {
@@ -162,7 +168,7 @@ pub fn read_member(s: &[u8], close: u8, at: usize) -> Option<RawTest>
 }
 
 // The connective after an item that ends at a position, "with at least one space on both sides".
-pub fn read_connective(s: &[u8], at: usize) -> Option<Link>
+fn read_connective(s: &[u8], at: usize) -> Option<Link>
     requires { at ≤ length s.now }
     ensures { result ≡ connective_at s.now at }
 {
@@ -186,7 +192,7 @@ pub fn read_connective(s: &[u8], at: usize) -> Option<Link>
 }
 
 // The byte that closes a bracket after a filter that ends at a position.
-pub fn read_close(s: &[u8], close: u8, at: usize) -> Option<usize>
+fn read_close(s: &[u8], close: u8, at: usize) -> Option<usize>
     requires { at ≤ length s.now }
     ensures { result ≡ close_at s.now close at }
 {

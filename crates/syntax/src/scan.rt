@@ -1,4 +1,4 @@
-// Spaces, words and runs of bytes.
+// Spaces, words and runs of bytes. That a position lies in the text is a clause, for the reason in `lib`.
 ghost use Rattle.std.specs.Prelude.{◌≡◌, ◌≤◌, ℕ, Bool, length};
 ghost use Rattle.base.specs.Names.{is_name_part};
 ghost use Rattle.base.specs.Runs.{RunEnd};

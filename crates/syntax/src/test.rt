@@ -1,4 +1,4 @@
-// Tests: a name, an operator and a value, with at least one space between.
+// Tests: a name, an operator and a value, with at least one space between. That a position lies in the text is a clause, for the reason in `lib`.
 ghost use Rattle.std.specs.Prelude.{◌≡◌, ◌≤◌, length, drop};
 ghost use Rattle.base.specs.Names.{is_name_part, is_name};
 ghost use Rattle.base.specs.Parts.{part};
@@ -25,7 +25,7 @@ pub fn read_operator(s: &[u8], at: usize) -> Option<u8>
     let letters = u16::from_be_bytes([first, second]);
     let words = b"eqnecoswewgtltgeleapsaebprposssbinnire";
     for k in 0..Operator::COUNT {
-        let i = 2 * k as usize;
+        let i = 2 * usize::from(k);
         let word = u16::from_be_bytes([words[i], words[i + 1]]);
         if letters == word {
             return Some(k);
@@ -50,7 +50,8 @@ fn may_follow(s: &[u8], at: usize, close: u8) -> bool
     b == close
 }
 
-// The value of a test at `at` whose name ends at `until` and whose operator ends at `after`.
+// The value of a test at `at` whose name ends at `until` and whose operator ends at `after`: each of the six is read one after the other, and
+// the test is made of them here.
 fn read_test_value(
     s: &[u8],
     close: u8,

@@ -1,4 +1,4 @@
-// Values: bare words, and strings with escapes.
+// Values: bare words, and strings with escapes. That a position lies in the text is a clause, for the reason in `lib`.
 ghost use Rattle.std.specs.Prelude.{◌≡◌, false, ◌+◌, ◌≤◌, length};
 ghost use Rattle.base.specs.Runs.{RunEnd};
 ghost use Rattle.syntax.specs.Strings.{is_bare, is_escape, unescaped};
@@ -94,10 +94,9 @@ fn read_string(s: &[u8], at: usize) -> Option<StringEnd>
 
 // The value that begins at a position: "a quoted string or a bare word".
 pub fn read_value(s: &[u8], at: usize) -> Option<RawValue>
-    requires { at ≤ length s.now }
     ensures { result ≡ value_at s.now at }
 {
-    if at == s.len() {
+    if at >= s.len() {
         return None;
     }
     let b = s[at];

@@ -5,9 +5,6 @@
 ghost use Rattle.std.specs.Prelude.{◌≡◌, cond, not, ◌&&◌, ◌≤◌, ◌<◌, length};
 ghost use Rattle.sheet.specs.Sheet.{parameters_of};
 ghost use Rattle.card.specs.Card.{entries_of};
-ghost use Rattle.syntax.specs.Placed.{Placed};
-ghost use Rattle.syntax.specs.Scan.{test_of};
-ghost use Rattle.syntax.specs.Grammar.{round};
 ghost use Rattle.syntax.specs.Reader.{item_at, filter_at, bracket_at, chosen_at};
 ghost use Rattle.text_judge.specs.Folds.{judged, undecided, judging};
 ghost use Rattle.judge.specs.Sets.{of_occurrence, chosen_of};
@@ -20,8 +17,16 @@ use filter::Spot;
 use judge::{Chosen, is_under, member_counts, member_truth, some_says, test_found, test_says};
 use kind::Meaning;
 use sheet::Sheet;
-use syntax::scan::skip;
-use syntax::{Connective, Head, RawTest, read_close, read_connective, read_head, read_member};
+use syntax::{Connective, FilterTest, FilterText, Head};
+
+// What is asked: what a filter says of a card on a sheet, of those of the card's entries that count.
+#[derive(Clone, Copy)]
+pub struct AskedCard<'a> {
+    pub sheet: &'a Sheet<'a>,
+    pub card: &'a Card<'a>,
+    pub chosen: Chosen,
+    pub filter: &'a FilterText<'a>,
+}
 
 // Where a filter or an item that was judged ends, and what it says.
 #[derive(Clone, Copy)]
@@ -58,26 +63,6 @@ fn after_item(needed: bool, says: bool, item: bool) -> bool
     if needed { item } else { says }
 }
 
-// What a test says, where that is needed.
-fn test_verdict(
-    needed: bool,
-    sheet: &Sheet<'_>,
-    bundle: u8,
-    card: &Card<'_>,
-    chosen: Chosen,
-    filter: &[u8],
-    test: RawTest,
-) -> bool
-    requires filter_len_bound { length filter.now ≤ 1024 }
-    requires placed { Placed filter.now test }
-    ensures { result ≡ (judging needed (parameters_of sheet.now) bundle (chosen_of chosen (entries_of card.now))).one (test_of filter.now test) }
-{
-    if needed {
-        return test_says(sheet, bundle, card, chosen, filter, test);
-    }
-    false
-}
-
 // What was judged says, and no where it is no filter.
 fn judged_says(judged: Option<Judged>) -> bool
     ensures { result ≡ judged_says judged }
@@ -86,242 +71,182 @@ fn judged_says(judged: Option<Judged>) -> bool
 }
 
 // Whether an entry's text counts for the test of a member: it is among those that count, stands under the parameter, and so on.
-fn entry_counts(under: bool, filter: &[u8], test: RawTest, meaning: Meaning, text: &[u8]) -> bool
-    requires filter_len_bound { length filter.now ≤ 1024 }
-    requires placed { Placed filter.now test }
-    ensures { result ≡ (under && text_counts meaning (test_of filter.now test).value text.now) }
+fn entry_counts(under: bool, test: &FilterTest<'_>, meaning: Meaning, text: &[u8]) -> bool
+    ensures { result ≡ (under && text_counts meaning test.now.value text.now) }
 {
-    if under {
-        return member_counts(filter, test, meaning, text);
-    }
-    false
+    under && member_counts(test, meaning, text)
 }
 
-// Whether an entry counts and the filter in the brackets says yes of its occurrence.
-#[cycle(judging)]
-fn entry_chosen(
-    counts: bool,
-    sheet: &Sheet<'_>,
-    card: &Card<'_>,
-    filter: &[u8],
-    occurrence: u8,
-    spot: Spot,
-) -> bool
-    requires filter_len_bound { length filter.now ≤ 1024 }
-    requires at_in_bounds { spot.at ≤ length filter.now }
-    ensures { result ≡ (counts && parsed_says (parameters_of sheet.now) spot.bundle (of_occurrence occurrence (entries_of card.now)) (filter_at spot.levels filter.now spot.close spot.at)) }
-{
-    if counts {
-        let chosen = Some(occurrence);
-        return judged_says(judge_filter(true, sheet, card, chosen, filter, spot));
+// That a spot is within the text is a clause, for `filter::Spot`'s reason.
+impl<'a> AskedCard<'a> {
+    // What a test says, where that is needed.
+    #[tactic(auto, unfolding(crate::specs::Folds::judging))]
+    fn test_verdict(&self, needed: bool, bundle: u8, test: &FilterTest<'_>) -> bool
+        ensures { result ≡ (judging needed (parameters_of self.now.sheet.now) bundle (chosen_of self.now.chosen (entries_of self.now.card.now))).one test.now }
+    {
+        needed && test_says(self.sheet, bundle, self.card, self.chosen, test)
     }
-    false
-}
 
-// Whether some entry under a parameter counts for the test of a member, and the filter in the brackets at a spot says yes of its
-// occurrence.
-#[cycle(judging)]
-fn some_chosen(
-    sheet: &Sheet<'_>,
-    card: &Card<'_>,
-    chosen: Chosen,
-    filter: &[u8],
-    spot: Spot,
-    index: u8,
-    meaning: Meaning,
-    test: RawTest,
-) -> bool
-    requires filter_len_bound { length filter.now ≤ 1024 }
-    requires at_in_bounds { spot.at ≤ length filter.now }
-    requires placed { Placed filter.now test }
-    ensures { result ≡ some_chosen (parameters_of sheet.now) spot.bundle (entries_of card.now) chosen (filter_at spot.levels filter.now spot.close spot.at) index meaning (test_of filter.now test).value (entries_of card.now) }
-{
-    for e in card.entries() {
-        let under = is_under(chosen, e.mark, e.tag == index);
-        let counts = entry_counts(under, filter, test, meaning, e.text);
-        if entry_chosen(counts, sheet, card, filter, e.mark, spot) {
-            return true;
+    // Whether an entry counts and the filter in the brackets at a spot says yes of its occurrence.
+    #[cycle(judging)]
+    fn entry_chosen(&self, counts: bool, occurrence: u8, spot: Spot) -> bool
+        requires { spot.at ≤ length self.now.filter.now }
+        ensures { result ≡ (counts && parsed_says (parameters_of self.now.sheet.now) spot.bundle (of_occurrence occurrence (entries_of self.now.card.now))
+            (filter_at spot.levels self.now.filter.now spot.close spot.at)) }
+    {
+        if counts {
+            let chosen = Some(occurrence);
+            let one = AskedCard { chosen, ..*self };
+            return judged_says(one.judge_filter(true, spot));
         }
+        false
     }
-    false
-}
 
-// What the test of a member after the brackets at a spot says.
-#[cycle(judging)]
-fn member_verdict(
-    needed: bool,
-    sheet: &Sheet<'_>,
-    card: &Card<'_>,
-    chosen: Chosen,
-    filter: &[u8],
-    spot: Spot,
-    test: RawTest,
-) -> bool
-    requires filter_len_bound { length filter.now ≤ 1024 }
-    requires at_in_bounds { spot.at ≤ length filter.now }
-    requires placed { Placed filter.now test }
-    ensures { result ≡ (needed && member_says (parameters_of sheet.now) spot.bundle (entries_of card.now) chosen (filter_at spot.levels filter.now spot.close spot.at) (test_of filter.now test)) }
-{
-    if needed {
-        match test_found(sheet, spot.bundle, filter, test) {
-            Some(found) => {
-                let meaning = kind::meaning_of(test.operator, found.kind);
-                let some = some_chosen(
-                    sheet,
-                    card,
-                    chosen,
-                    filter,
-                    spot,
-                    found.index,
-                    meaning,
-                    test,
-                );
-                return some_says(meaning, member_truth(filter, test), some);
-            }
-            None => {
-                return false;
+    // Whether some entry under a parameter counts for the test of a member, and the filter in the brackets at a spot says yes of its
+    // occurrence.
+    #[cycle(judging)]
+    fn some_chosen(&self, spot: Spot, index: u8, meaning: Meaning, test: &FilterTest<'_>) -> bool
+        requires { spot.at ≤ length self.now.filter.now }
+        ensures { result ≡ some_chosen (parameters_of self.now.sheet.now) spot.bundle (entries_of self.now.card.now) self.now.chosen
+            (filter_at spot.levels self.now.filter.now spot.close spot.at) index meaning test.now.value (entries_of self.now.card.now) }
+    {
+        for e in self.card.entries() {
+            let under = is_under(self.chosen, e.mark, e.tag == index);
+            let counts = entry_counts(under, test, meaning, e.text);
+            if self.entry_chosen(counts, e.mark, spot) {
+                return true;
             }
         }
+        false
     }
-    false
-}
 
-// The filter in round brackets at a spot inside them, after not where `negate` says so.
-#[cycle(judging)]
-fn judge_round(
-    needed: bool,
-    negate: bool,
-    sheet: &Sheet<'_>,
-    card: &Card<'_>,
-    chosen: Chosen,
-    filter: &[u8],
-    spot: Spot,
-) -> Option<Judged>
-    requires filter_len_bound { length filter.now ≤ 1024 }
-    requires at_in_bounds { spot.at ≤ length filter.now }
-    requires close_value { spot.close ≡ round }
-    ensures { result ≡ answer_of judged (judging needed (parameters_of sheet.now) spot.bundle (chosen_of chosen (entries_of card.now))) (bracket_at spot.levels filter.now negate spot.at) }
-{
-    let inner = judge_filter(needed, sheet, card, chosen, filter, spot)?;
-    Some(Judged {
-        end: read_close(filter, b')', inner.end)?,
-        says: negated_if(negate, inner.says),
-    })
-}
-
-// The test of a member at a spot, after the filter in square brackets of the bundle whose name ends at `until`; the levels are those in
-// the brackets.
-#[cycle(judging)]
-fn judge_chosen(
-    needed: bool,
-    sheet: &Sheet<'_>,
-    card: &Card<'_>,
-    chosen: Chosen,
-    filter: &[u8],
-    spot: Spot,
-    until: usize,
-) -> Option<Judged>
-    requires filter_len_bound { length filter.now ≤ 1024 }
-    requires at_le_until { spot.at ≤ until }
-    requires until_in_bounds { until < length filter.now }
-    ensures { result ≡ answer_of judged (judging needed (parameters_of sheet.now) spot.bundle (chosen_of chosen (entries_of card.now))) (chosen_at spot.levels filter.now spot.close spot.at until) }
-{
-    let at = spot.at;
-    let levels = spot.levels;
-    let inside = Spot {
-        at: skip(filter, until + 1),
-        levels,
-        close: b']',
-        bundle: sheet.enter(spot.bundle, &filter[at..until]),
-    };
-    // only where the brackets end is asked: their filter is judged for each entry
-    let inner = judge_filter(false, sheet, card, chosen, filter, inside)?;
-    let test = read_member(filter, spot.close, inner.end)?;
-    Some(Judged {
-        end: test.value.next,
-        says: member_verdict(needed, sheet, card, chosen, filter, inside, test),
-    })
-}
-
-// The item at a spot.
-#[cycle(judging)]
-fn judge_item(
-    needed: bool,
-    sheet: &Sheet<'_>,
-    card: &Card<'_>,
-    chosen: Chosen,
-    filter: &[u8],
-    spot: Spot,
-) -> Option<Judged>
-    requires filter_len_bound { length filter.now ≤ 1024 }
-    requires at_in_bounds { spot.at ≤ length filter.now }
-    ensures { result ≡ answer_of judged (judging needed (parameters_of sheet.now) spot.bundle (chosen_of chosen (entries_of card.now))) (item_at spot.levels filter.now spot.close spot.at) }
-{
-    let at = spot.at;
-    let levels = spot.levels;
-    let close = spot.close;
-    let bundle = spot.bundle;
-    let head = read_head(filter, close, at)?;
-    match head {
-        Head::Test(test) => Some(Judged {
-            end: test.value.next,
-            says: test_verdict(needed, sheet, bundle, card, chosen, filter, test),
-        }),
-        Head::Open(next, negate) => {
-            if levels == 0 {
-                return None;
-            }
-            let inside = Spot {
-                at: next,
-                levels: levels - 1,
-                close: b')',
-                bundle,
-            };
-            judge_round(needed, negate, sheet, card, chosen, filter, inside)
+    // What the test of a member after the brackets at a spot says.
+    #[cycle(judging)]
+    fn member_verdict(&self, needed: bool, spot: Spot, test: &FilterTest<'_>) -> bool
+        requires { spot.at ≤ length self.now.filter.now }
+        ensures { result ≡ (needed && member_says (parameters_of self.now.sheet.now) spot.bundle (entries_of self.now.card.now) self.now.chosen
+            (filter_at spot.levels self.now.filter.now spot.close spot.at) test.now) }
+    {
+        if !needed {
+            return false;
         }
-        Head::Choice(until) => {
-            if levels == 0 {
-                return None;
-            }
-            let member = Spot {
-                at,
-                levels: levels - 1,
-                close,
-                bundle,
-            };
-            judge_chosen(needed, sheet, card, chosen, filter, member, until)
-        }
+        let Some(found) = test_found(self.sheet, spot.bundle, test) else {
+            return false;
+        };
+        let meaning = kind::meaning_of(test.operator(), found.kind);
+        let some = self.some_chosen(spot, found.index, meaning, test);
+        some_says(meaning, member_truth(test), some)
     }
-}
 
-// The filter at a spot, its items joined from left to right, and and or equal in rank. Where what it says is not needed, no test is
-// judged, and only where the filter ends is told.
-#[cycle(judging)]
-pub fn judge_filter(
-    needed: bool,
-    sheet: &Sheet<'_>,
-    card: &Card<'_>,
-    chosen: Chosen,
-    filter: &[u8],
-    spot: Spot,
-) -> Option<Judged>
-    requires filter_len_bound { length filter.now ≤ 1024 }
-    requires at_in_bounds { spot.at ≤ length filter.now }
-    ensures { result ≡ answer_of judged (judging needed (parameters_of sheet.now) spot.bundle (chosen_of chosen (entries_of card.now))) (filter_at spot.levels filter.now spot.close spot.at) }
-{
-    let mut judged = judge_item(needed, sheet, card, chosen, filter, spot)?;
-    // no for: where the next item begins is known when the one before it was read
-    while let Some(link) = read_connective(filter, judged.end) {
-        let asked = item_needed(needed, link.connective, judged.says);
-        let next = Spot {
-            at: link.next,
+    // The filter in round brackets at a spot inside them, after not where `negate` says so.
+    #[cycle(judging)]
+    fn judge_round(&self, needed: bool, negate: bool, spot: Spot) -> Option<Judged>
+        requires { spot.at ≤ length self.now.filter.now }
+        ensures { result ≡ answer_of judged (judging needed (parameters_of self.now.sheet.now) spot.bundle (chosen_of self.now.chosen (entries_of self.now.card.now)))
+            (bracket_at spot.levels self.now.filter.now negate spot.at) }
+    {
+        let inside = Spot {
+            close: b')',
             ..spot
         };
-        let item = judge_item(asked, sheet, card, chosen, filter, next)?;
-        judged = Judged {
-            end: item.end,
-            says: after_item(asked, judged.says, item.says),
-        };
+        let inner = self.judge_filter(needed, inside)?;
+        Some(Judged {
+            end: self.filter.read_close(b')', inner.end)?,
+            says: negated_if(negate, inner.says),
+        })
     }
-    Some(judged)
+
+    // The test of a member at a spot, after the filter in square brackets of the bundle whose name ends at `until`; the levels are those
+    // in the brackets.
+    #[cycle(judging)]
+    fn judge_chosen(&self, needed: bool, spot: Spot, until: usize) -> Option<Judged>
+        requires at_le_until { spot.at ≤ until }
+        requires until_in_bounds { until < length self.now.filter.now }
+        ensures { result ≡ answer_of judged (judging needed (parameters_of self.now.sheet.now) spot.bundle (chosen_of self.now.chosen (entries_of self.now.card.now)))
+            (chosen_at spot.levels self.now.filter.now spot.close spot.at until) }
+    {
+        let filter = self.filter;
+        let bundle = self.sheet.enter(spot.bundle, filter.part(spot.at, until));
+        let inside = Spot {
+            at: filter.skip_after(until),
+            levels: spot.levels,
+            close: b']',
+            bundle,
+        };
+        // only where the brackets end is asked: their filter is judged for each entry
+        let inner = self.judge_filter(false, inside)?;
+        let raw = filter.read_member(spot.close, inner.end)?;
+        let test = FilterTest { text: filter, raw };
+        Some(Judged {
+            end: raw.value.next,
+            says: self.member_verdict(needed, inside, &test),
+        })
+    }
+
+    // The item at a spot.
+    #[cycle(judging)]
+    fn judge_item(&self, needed: bool, spot: Spot) -> Option<Judged>
+        requires { spot.at ≤ length self.now.filter.now }
+        ensures { result ≡ answer_of judged (judging needed (parameters_of self.now.sheet.now) spot.bundle (chosen_of self.now.chosen (entries_of self.now.card.now)))
+            (item_at spot.levels self.now.filter.now spot.close spot.at) }
+    {
+        let filter = self.filter;
+        let levels = spot.levels;
+        let head = filter.read_head(spot.close, spot.at)?;
+        match head {
+            Head::Test(raw) => {
+                let test = FilterTest { text: filter, raw };
+                Some(Judged {
+                    end: raw.value.next,
+                    says: self.test_verdict(needed, spot.bundle, &test),
+                })
+            }
+            Head::Open(next, negate) => {
+                if levels == 0 {
+                    return None;
+                }
+                let inside = Spot {
+                    at: next,
+                    levels: levels - 1,
+                    ..spot
+                };
+                self.judge_round(needed, negate, inside)
+            }
+            Head::Choice(until) => {
+                if levels == 0 {
+                    return None;
+                }
+                let member = Spot {
+                    levels: levels - 1,
+                    ..spot
+                };
+                self.judge_chosen(needed, member, until)
+            }
+        }
+    }
+
+    // The filter at a spot, its items joined from left to right, and and or equal in rank. Where what it says is not needed, no test is
+    // judged, and only where the filter ends is told.
+    #[cycle(judging)]
+    pub fn judge_filter(&self, needed: bool, spot: Spot) -> Option<Judged>
+        requires { spot.at ≤ length self.now.filter.now }
+        ensures { result ≡ answer_of judged (judging needed (parameters_of self.now.sheet.now) spot.bundle (chosen_of self.now.chosen (entries_of self.now.card.now)))
+            (filter_at spot.levels self.now.filter.now spot.close spot.at) }
+    {
+        let mut judged = self.judge_item(needed, spot)?;
+        // no for: where the next item begins is known when the one before it was read
+        while let Some(link) = self.filter.read_connective(judged.end) {
+            let asked = item_needed(needed, link.connective, judged.says);
+            let next = Spot {
+                at: link.next,
+                ..spot
+            };
+            let item = self.judge_item(asked, next)?;
+            judged = Judged {
+                end: item.end,
+                says: after_item(asked, judged.says, item.says),
+            };
+        }
+        Some(judged)
+    }
 }

@@ -7,10 +7,10 @@ fn refused(rt: &(impl Print + Eprint), r: Refusal) -> bool {
     labelled(rt, b"", u64::from(u32::from(r.reason))) && labelled(rt, b" at ", r.place as u64)
 }
 
-// What check answered.
-pub fn checked(rt: &(impl Print + Eprint), c: Result<usize, Refusal>) -> bool {
+// What check or select counted, after a word for it.
+pub fn counted(rt: &(impl Print + Eprint), word: &[u8], c: Result<usize, Refusal>) -> bool {
     match c {
-        Ok(n) => labelled(rt, b"tests ", n as u64),
+        Ok(n) => labelled(rt, word, n as u64),
         Err(r) => refused(rt, r),
     }
 }
@@ -24,17 +24,9 @@ pub fn matched(rt: &(impl Print + Eprint), m: Result<bool, Refusal>) -> bool {
     }
 }
 
-// What select answered.
-pub fn selected(rt: &(impl Print + Eprint), s: Result<usize, Refusal>) -> bool {
-    match s {
-        Ok(n) => labelled(rt, b"count ", n as u64),
-        Err(r) => refused(rt, r),
-    }
-}
-
 // A cell of a list.
 fn cell(rt: &(impl Print + Eprint), n: u32) -> bool {
-    labelled(rt, b" ", n as u64)
+    labelled(rt, b" ", u64::from(n))
 }
 
 // The cells of a list.

@@ -1,83 +1,24 @@
 // The operations on the parts of a case. Each prints the case's label and what was answered; whether that was written.
-use crate::answers::{cells, checked, matched, selected};
+use crate::answers::{cells, counted, matched};
 use crate::write::write;
+use refusal::Refusal;
 
-// Check.
-fn ask_check(rt: &(impl Print + Eprint), label: &[u8], sheet: &[u8], filter: &[u8]) -> bool {
-    write(rt, label) && checked(rt, sirophan::check(sheet, filter))
-}
-
-// Check of a search string.
-fn ask_check_search(rt: &(impl Print + Eprint), label: &[u8], sheet: &[u8], text: &[u8]) -> bool {
-    write(rt, label) && checked(rt, sirophan::check_search(sheet, text))
-}
-
-// Match.
-fn ask_match(
+// Select, by a filter or by a search string, on a list of `size` cells that hold 999, with the cells that it leaves; whether there is room
+// for the list and it was written.
+fn ask_select<F: FnOnce(&mut [u32]) -> Result<usize, Refusal>>(
     rt: &(impl Print + Eprint),
-    label: &[u8],
-    sheet: &[u8],
-    filter: &[u8],
-    card: &[u8],
-) -> bool {
-    write(rt, label) && matched(rt, sirophan::match_card(sheet, filter, card))
-}
-
-// Match by a search string.
-fn ask_match_search(
-    rt: &(impl Print + Eprint),
-    label: &[u8],
-    sheet: &[u8],
-    text: &[u8],
-    card: &[u8],
-) -> bool {
-    write(rt, label) && matched(rt, sirophan::match_search(sheet, text, card))
-}
-
-// Select, with the cells that it leaves.
-fn ask_select(
-    rt: &(impl Print + Eprint),
-    label: &[u8],
-    sheet: &[u8],
-    filter: &[u8],
-    cards: &[u8],
-    list: &mut [u32],
-) -> bool {
-    write(rt, label)
-        && (selected(rt, sirophan::select(sheet, filter, cards, list)) && cells(rt, list))
-}
-
-// Select by a search string, with the cells that it leaves.
-fn ask_select_search(
-    rt: &(impl Print + Eprint),
-    label: &[u8],
-    sheet: &[u8],
-    text: &[u8],
-    cards: &[u8],
-    list: &mut [u32],
-) -> bool {
-    write(rt, label)
-        && (selected(rt, sirophan::select_search(sheet, text, cards, list)) && cells(rt, list))
-}
-
-// Either of both on a list of `size` cells that hold 999; whether there is room for it and it was written.
-fn ask_select_into(
-    rt: &(impl Print + Eprint),
-    by_search: bool,
     size: usize,
     label: &[u8],
-    sheet: &[u8],
-    filter: &[u8],
-    cards: &[u8],
-) -> bool {
+    select: F,
+) -> bool
+    requires { F.IsAlwaysCallable select }
+{
     if size > 128 {
         return false;
     }
-    let mut list = [999u32; 128];
-    if by_search {
-        return ask_select_search(rt, label, sheet, filter, cards, &mut list[0..size]);
-    }
-    ask_select(rt, label, sheet, filter, cards, &mut list[0..size])
+    let mut room = [999u32; 128];
+    let list = &mut room[0..size];
+    write(rt, label) && counted(rt, b"count ", select(list)) && cells(rt, list)
 }
 
 // The operation with this number: 0 check, 1 match, 2 select, and 3 to 5 the same by a search string; whether it could be asked and
@@ -93,12 +34,22 @@ pub fn ask(
 ) -> bool {
     // an operation is a number in the file of cases
     match operation {
-        0 => ask_check(rt, label, sheet, filter),
-        1 => ask_match(rt, label, sheet, filter, cards),
-        2 => ask_select_into(rt, false, size, label, sheet, filter, cards),
-        3 => ask_check_search(rt, label, sheet, filter),
-        4 => ask_match_search(rt, label, sheet, filter, cards),
-        5 => ask_select_into(rt, true, size, label, sheet, filter, cards),
+        0 => write(rt, label) && counted(rt, b"tests ", sirophan::check(sheet, filter)),
+        1 => write(rt, label) && matched(rt, sirophan::match_card(sheet, filter, cards)),
+        2 => ask_select(
+            rt,
+            size,
+            label,
+            |list| sirophan::select(sheet, filter, cards, list),
+        ),
+        3 => write(rt, label) && counted(rt, b"tests ", sirophan::check_search(sheet, filter)),
+        4 => write(rt, label) && matched(rt, sirophan::match_search(sheet, filter, cards)),
+        5 => ask_select(
+            rt,
+            size,
+            label,
+            |list| sirophan::select_search(sheet, filter, cards, list),
+        ),
         _ => false,
     }
 }

@@ -37,10 +37,9 @@ fn print_unopened(rt: &impl Eprint, error: io::Error) {
     let size = buffer.position();
     let bytes = buffer.into_inner();
     let text = from_utf8(bytes.get(..size as usize).unwrap_or(&[])).unwrap_or("cannot be opened");
-    let cause = match text.rsplit_once(" (os error ") {
-        Some((cause, _)) => cause,
-        None => text,
-    };
+    let cause = text
+        .rsplit_once(" (os error ")
+        .map_or(text, |(cause, _)| cause);
     let _ = eprintln!(rt; "cases.bin: {cause}");
 }
 

@@ -6,8 +6,8 @@ use Rattle.block.proofs.layout_from.Goals as goal
 pub returns-then-block-first : goal.returns-then-block-first
 returns-then-block-first c = search (layout_first_not, rules)
 
-pub returns-then-count-most : goal.returns-then-count-most
-returns-then-count-most c = search (layout_many, rules)
+pub returns-then-count-form : goal.returns-then-count-form
+returns-then-count-form c = search (layout_many, rules)
 
 pub returns : goal.returns
 returns c = search (layout_laid, rules)

@@ -7,8 +7,8 @@ use Rattle.searching.proofs.match_search.Goals as goal
 pub invariant_of-sheet : goal.invariant_of-sheet
 invariant_of-sheet c = search (passed_sheet, c.in_ok-rows.was, rules)
 
-pub judge_by_search-requires : goal.judge_by_search-requires
-judge_by_search-requires c = search (passed_sheet, passed_within, c.in_ok-rows.was, rules)
+pub invariant_of-asked : goal.invariant_of-asked
+invariant_of-asked c = record { within = search (passed_within, c.in_ok-rows.was, rules) }
 
 pub returns-in_err-rows : goal.returns-in_err-rows
 returns-in_err-rows c = let p = err_from_is_err_and c.from_residual.result c.from_residual.ensures.1 in rw (p.1, p.2) (search (search_refused, c.in_err-rows.was, rules))

@@ -7,8 +7,8 @@ use Rattle.searching.proofs.read_search.Goals as goal
 pub returns-in_err-sheet : goal.returns-in_err-sheet
 returns-in_err-sheet c = let p = err_from_is_err_and c.from_residual.result c.from_residual.ensures.1 in rw (p.1, p.2) (search (sheet_refuses, c.in_err-sheet.ensures.refused, rules))
 
-pub check_rows-requires : goal.check_rows-requires
-check_rows-requires c = search (accepted_within, c.in_ok-rows.was, rules)
+pub invariant_of-check_rows : goal.invariant_of-check_rows
+invariant_of-check_rows c = record { within = search (accepted_within, c.in_ok-rows.was, rules) }
 
 pub returns-in_err-rows : goal.returns-in_err-rows
 returns-in_err-rows c =

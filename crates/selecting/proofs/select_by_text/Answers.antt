@@ -8,6 +8,9 @@ use Rattle.selecting.proofs.select_by_text.Goals as goal
 pub invariant_of-sheet : goal.invariant_of-sheet
 invariant_of-sheet c = search (passing_sheet, c.in_ok-check.was, rules)
 
+pub invariant_of-filter : goal.invariant_of-filter
+invariant_of-filter c = (passing _ _ _ _ c.check.ensures c.in_ok-check.was).short
+
 pub new-asking-requires : goal.new-asking-requires
 new-asking-requires c = search (passing, c.in_ok-check.was, rules)
 

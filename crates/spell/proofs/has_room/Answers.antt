@@ -3,8 +3,5 @@ use Rattle.spell.proofs.Spelling.{room_past, room_left}
 use borrow.Author.Rules.{rules}
 use Rattle.spell.proofs.has_room.Goals as goal
 
-pub returns-then-size-from : goal.returns-then-size-from
-returns-then-size-from c = search (room_past, rules)
-
 pub returns : goal.returns
 returns c = search (room_left, rules)

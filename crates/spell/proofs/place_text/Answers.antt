@@ -3,12 +3,6 @@ use Rattle.spell.proofs.Spelling.{place_past, place_within, place_room, place_te
 use borrow.Author.Rules.{rules}
 use Rattle.spell.proofs.place_text.Goals as goal
 
-pub slice_bounds-write_text-count : goal.slice_bounds-write_text-count
-slice_bounds-write_text-count c = search (place_within, rules)
-
-pub write_text-written-requires-clause-text_room : goal.write_text-written-requires-clause-text_room
-write_text-written-requires-clause-text_room c = search (place_room, rules)
-
 pub returns-then-has_room : goal.returns-then-has_room
 returns-then-has_room c = search (place_text, rules)
 

@@ -9,7 +9,7 @@ pub loop-row-init : goal.loop-row-init
 loop-row-init c = search (rows_start, rules)
 
 pub loop-row-preserved : goal.loop-row-preserved
-loop-row-preserved c = rows_next _ _ _ _ _ c.loop-row.invariant _ (omega arith) c.from-sum.ensures (omega (arith, c.type_inv.block (32 * (c.loop-row.row - 1) + c.args.j)))
+loop-row-preserved c = rows_next _ _ _ _ _ c.loop-row.invariant _ (omega arith) c.from-sum.ensures (omega (arith, c.fits-block (32 * (c.loop-row.row - 1) + c.args.j)))
 
 pub returns : goal.returns
 returns c = search (rows_end, rules)

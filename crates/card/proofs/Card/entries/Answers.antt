@@ -1,13 +1,8 @@
 -- `card::Card::entries` meets its contract: the walk over a card's entries starts at byte 6. Assumes nothing.
-use native.Mathlib.Omega.{arith}
 use mathlib.Core.Path.{refl, sym}
 use Rattle.card.specs.Card.{entry_count, entries_of}
-use Rattle.card.proofs.Read.{card-length}
 use Rattle.card.proofs.Entries.{card_walk}
 use Rattle.card.proofs.Card.entries.Goals as goal
-
-pub bounds-self-inside-5 : goal.bounds-self-inside-5
-bounds-self-inside-5 c = omega (arith, card-length _ c.self.invariant)
 
 pub invariant_of-result : goal.invariant_of-result
 invariant_of-result c = record { walk = card_walk _ c.self.invariant }

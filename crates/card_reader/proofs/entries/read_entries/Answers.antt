@@ -8,9 +8,6 @@ loop-e-init c =
     rw (c.into_iter-e-iterator.ensures.into_iter_gives, c.enumerate-e-items.ensures.source, c.enumerate-e-items.ensures.count)
     (progress_start _ _ _ _ c.entries.result c.entries.ensures.well_formed c.entries.ensures.block c.entries.ensures.entries (search rules) c.begin.ensures)
 
-pub take_entry-requires-clause-e_bound : goal.take_entry-requires-clause-e_bound
-take_entry-requires-clause-e_bound c = progress_room _ _ _ _ _ _ c.loop-e.invariant _ _ c.in-Some.ensures.steps.0 _ c.in-Some.ensures.steps.1
-
 pub take_entry-requires-clause-end_bound : goal.take_entry-requires-clause-end_bound
 take_entry-requires-clause-end_bound c = progress_within _ _ _ _ _ _ c.loop-e.invariant _ _ c.in-Some.ensures.steps.0 _ c.in-Some.ensures.steps.1
 

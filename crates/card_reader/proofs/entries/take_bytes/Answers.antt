@@ -3,8 +3,5 @@ use borrow.Author.Rules.{rules}
 use Rattle.card_reader.proofs.TextReadings.{bytes_taken, bytes_misfit}
 use Rattle.card_reader.proofs.entries.take_bytes.Goals as goal
 
-pub returns-then-not-card_readable : goal.returns-then-not-card_readable
-returns-then-not-card_readable c = search (bytes_misfit, rules)
-
 pub returns : goal.returns
 returns c = search (bytes_taken, rules)

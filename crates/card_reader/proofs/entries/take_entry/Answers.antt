@@ -9,17 +9,5 @@ use Rattle.card_reader.proofs.entries.take_entry.Goals as goal
 pub returns-then-i-ge32 : goal.returns-then-i-ge32
 returns-then-i-ge32 c = search (takes_past, rules)
 
-pub returns-then-not-kept-i : goal.returns-then-not-kept-i
-returns-then-not-kept-i c = search (takes_over, rules)
-
-pub returns-in-Some-Number : goal.returns-in-Some-Number
-returns-in-Some-Number c = let own = sym c.in-Some-Number.ensures ∙ ap kind_number c.in-Some-Number.field-0-is in search (takes_as, own, rules)
-
-pub returns-in-Some-Date : goal.returns-in-Some-Date
-returns-in-Some-Date c = let own = sym c.in-Some-Date.ensures ∙ ap kind_number c.in-Some-Date.field-0-is in search (takes_as, own, rules)
-
-pub returns-in-Some-Period : goal.returns-in-Some-Period
-returns-in-Some-Period c = let own = sym c.in-Some-Period.ensures ∙ ap kind_number c.in-Some-Period.field-0-is in search (takes_as, own, rules)
-
 pub returns-in_default : goal.returns-in_default
 returns-in_default c = takes_as _ _ _ _ (search rules) _ c.from-i.ensures c.if-i-ge32.false _ refl (search (not-true, c.if-not-kept-i.false, rules)) c.requires.e_bound _ refl _ _ c.take_bytes.ensures

@@ -1,5 +1,5 @@
 -- `date::read` meets its contract: the length tells the spelling. Assumes nothing.
-use Rattle.date.proofs.Texts.{zone_bound, read_year_lem, read_month_lem, read_day_lem, read_short, read-second, read_no_zone}
+use Rattle.date.proofs.Texts.{read_year_lem, read_month_lem, read_day_lem, read_short, read-second, read_no_zone}
 use borrow.Author.Rules.{rules}
 use Rattle.date.proofs.reader.read.Goals as goal
 
@@ -14,9 +14,6 @@ returns-then-s-eq10 c = search (read_day_lem, rules)
 
 pub returns-then-s-lt20 : goal.returns-then-s-lt20
 returns-then-s-lt20 c = search (read_short, rules)
-
-pub read_local-requires : goal.read_local-requires
-read_local-requires c = search (zone_bound, rules)
 
 pub returns-in_err-offset : goal.returns-in_err-offset
 returns-in_err-offset c = search (read_no_zone, rules)

@@ -1,15 +1,8 @@
--- `judge::placed::test_fault` meets its contract: the value is the text's part, or what its escapes stand for. Assumes nothing.
+-- `judge::placed::test_fault` meets its contract: the fault is told of its value. Assumes nothing.
 use borrow.Author.Rules.{rules}
-use native.Mathlib.Omega.{arith}
-use lib.ListN.{length-take}
-use Rattle.judge.proofs.Meaning.{fault_placed, value-escaped, value-plain}
+use Rattle.judge.specs.Faults.{fault_at}
+use Rattle.judge.proofs.Meaning.{fault_placed}
 use Rattle.judge.proofs.placed.test_fault.Goals as goal
 
-pub slice_bounds-fault_at-end : goal.slice_bounds-fault_at-end
-slice_bounds-fault_at-end c = simp length-take (omega arith)
-
-pub returns-then-value : goal.returns-then-value
-returns-then-value c = search (fault_placed, value-escaped, rules)
-
 pub returns : goal.returns
-returns c = search (fault_placed, value-plain, rules)
+returns c = fault_placed _ _ c.args.test.now _ c.test_found-found.ensures _ _ _ (c.of_value.ensures (λ v. fault_at c.test_found-found.result c.operator-operator.result v c.args.place) (λ b x h. search rules)) c.operator-operator.ensures

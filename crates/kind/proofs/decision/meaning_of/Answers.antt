@@ -2,5 +2,5 @@
 use Rattle.kind.proofs.Table.{of_row}
 use Rattle.kind.proofs.decision.meaning_of.Goals as goal
 
-pub returns-in-Some-of : goal.returns-in-Some-of
-returns-in-Some-of c = of_row _ _ c.if-operator.false _ _ _ c.kind_meaning.ensures c.in-Some.ensures c.in-Some-of.ensures
+pub returns : goal.returns
+returns c = of_row _ _ c.if-operator.false _ _ _ c.kind_meaning.ensures c.in-Some.ensures c.in-Some-of.ensures

@@ -1,10 +1,8 @@
 -- `period::reader::read_span` meets its contract: a date is its period, and any other text is read as one. Assumes nothing.
 use borrow.Author.Rules.{rules}
-use Rattle.period.proofs.Texts.{span_date, span_period}
+use mathlib.Core.Path.{refl}
+use Rattle.period.proofs.Texts.{span_first}
 use Rattle.period.proofs.reader.read_span.Goals as goal
 
-pub returns-in-Some : goal.returns-in-Some
-returns-in-Some c = search (span_date, rules)
-
-pub returns-in-None : goal.returns-in-None
-returns-in-None c = search (span_period, rules)
+pub returns : goal.returns
+returns c = span_first _ _ c.read.ensures _ _ _ _ _ refl c.map.ensures.cases c.or_else.ensures (λ d p h. search rules) (λ h. search rules)

@@ -3,11 +3,5 @@ use Rattle.plain.proofs.Moving.{join_room, join_puts, no_join_puts}
 use borrow.Author.Rules.{rules}
 use Rattle.plain.proofs.bracket.bracket_join.Goals as goal
 
-pub bracket-requires : goal.bracket-requires
-bracket-requires c = search (join_room, rules)
-
-pub returns-then-join : goal.returns-then-join
-returns-then-join c = search (join_puts, rules)
-
 pub returns : goal.returns
 returns c = search (no_join_puts, rules)

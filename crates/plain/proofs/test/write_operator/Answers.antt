@@ -9,8 +9,8 @@ use Rattle.plain.proofs.test.write_operator.Goals as goal
 
 pub write_word-requires : goal.write_word-requires
 unfolding operator_letters flatten operator_words
-write_word-requires c = operator_room _ c.args.operator refl (search rules) (search rules)
+write_word-requires c = operator_room _ c.from-i.result refl (rw c.from-i.ensures (search rules)) (rw c.from-i.ensures (search rules))
 
 pub returns : goal.returns
 unfolding operator_letters flatten operator_words
-returns c = operator_puts _ c.args.operator refl (search rules) c.write_word.ensures
+returns c = rw (← c.from-i.ensures) (operator_puts _ c.from-i.result refl (rw c.from-i.ensures (search rules)) c.write_word.ensures)

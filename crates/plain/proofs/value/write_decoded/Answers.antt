@@ -5,9 +5,6 @@ use Rattle.plain.proofs.Bytes.{decoded_room, decoded_puts}
 use borrow.Author.Rules.{rules}
 use Rattle.plain.proofs.value.write_decoded.Goals as goal
 
-pub slice_bounds-write_plain-end : goal.slice_bounds-write_plain-end
-slice_bounds-write_plain-end c = simp length-take (omega arith)
-
 pub write_plain-requires : goal.write_plain-requires
 write_plain-requires c = search (decoded_room, rules)
 

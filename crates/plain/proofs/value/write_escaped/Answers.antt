@@ -4,14 +4,8 @@ use Rattle.plain.proofs.Bytes.{escaping_start, escaping_room, escaping_fits, esc
 use borrow.Author.Rules.{rules}
 use Rattle.plain.proofs.value.write_escaped.Goals as goal
 
-pub loop-b-init : goal.loop-b-init
-loop-b-init c = search (escaping_start, rules)
-
 pub write_escaped_byte-n-requires : goal.write_escaped_byte-n-requires
 write_escaped_byte-n-requires c = search (escaping_room, rules)
-
-pub overflow_add-n : goal.overflow_add-n
-overflow_add-n c = record { fits = omega (arith, escaping_fits c.loop-b.invariant (search rules) c.write_escaped_byte-n.ensures) }
 
 pub loop-b-preserved : goal.loop-b-preserved
 loop-b-preserved c = search (escaping_next, rules)

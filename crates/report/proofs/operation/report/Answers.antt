@@ -3,7 +3,7 @@ use Rattle.report.proofs.Contracts.{plan_ready, plan_reports}
 use Rattle.report.proofs.operation.report.Goals as goal
 
 pub raise_all-requires : goal.raise_all-requires
-raise_all-requires c = plan_ready _ _ _ _ _ _ _ c.plan_of-p.ensures c.rows_of-n.ensures c.steps_of-steps.ensures
+raise_all-requires c = plan_ready _ _ _ _ _ c.plan_of-plan.ensures
 
 pub returns : goal.returns
-returns c = plan_reports _ _ _ _ _ _ _ _ _ c.plan_of-p.ensures c.rows_of-n.ensures c.steps_of-steps.ensures c.raise_all.ensures c.answer.ensures
+returns c = plan_reports _ _ _ _ _ _ c.plan_of-plan.ensures c.raise_all.ensures

@@ -6,6 +6,7 @@ use Prim.Native.Nat.{◌+◌, ◌*◌, ◌-◌}
 use lib.ListN.{length}
 use Rattle.card.specs.Card.{entries_of}
 use Rattle.judge.specs.Sets.{chosen_of}
+use Rattle.card_reader.specs.Listed.{counted}
 use Rattle.row_judge.specs.Saying.{rows_say}
 use Rattle.row_judge.proofs.Saying.{Brackets, Telling}
 use Rattle.row_judge.proofs.says.+saying.Given as goal
@@ -14,17 +15,17 @@ abbrev pub decreases-bracket_says : goal.decreases-bracket_says
 decreases-bracket_says l = 2 * (length l.rows.now - 1) + 1
 
 abbrev pub decreases-rows_say : goal.decreases-rows_say
-decreases-rows_say l = 2 * length l.rows.now
+decreases-rows_say l = 2 * length l.opened.now.rows.now
 
 abbrev pub invariant-bracket_says-loop-next : goal.invariant-bracket_says-loop-next
-invariant-bracket_says-loop-next l = Brackets l.filter l.rows l.values l.card l.kept l.chosen l.index l.meaning l.opened l.next
+invariant-bracket_says-loop-next l = Brackets l.filter l.rows l.read.card.now l.read.kept.now l.chosen l.index l.meaning l.opened (counted l.next)
 
 abbrev pub invariant-rows_say-loop-at : goal.invariant-rows_say-loop-at
 invariant-rows_say-loop-at l =
-    Telling l.kept.kinds l.filter l.rows l.chosen (entries_of l.card) (rows_say l.kept.kinds l.filter (chosen_of l.chosen (entries_of l.card)) l.rows) l.at l.verdict
+    Telling l.read.kept.now.kinds l.filter l.cells l.chosen (entries_of l.read.card.now) (rows_say l.read.kept.now.kinds l.filter (chosen_of l.chosen (entries_of l.read.card.now)) l.cells) l.at l.verdict
 
 abbrev pub decreases-bracket_says-loop-next : goal.decreases-bracket_says-loop-next
-decreases-bracket_says-loop-next l = l.next
+decreases-bracket_says-loop-next l = counted l.next
 
 abbrev pub decreases-rows_say-loop-at : goal.decreases-rows_say-loop-at
-decreases-rows_say-loop-at l = length l.rows - l.at
+decreases-rows_say-loop-at l = length l.cells - l.at

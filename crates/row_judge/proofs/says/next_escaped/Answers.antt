@@ -1,15 +1,13 @@
 -- `row_judge::says::next_escaped` meets its contract: the value is what the escapes stand for. Assumes nothing.
-use borrow.Author.Rules.{rules}
-use native.Mathlib.Omega.{arith}
-use lib.ListN.{length-take}
-use Rattle.row_judge.proofs.Saying.{decoded-read, decoded-first}
+use Rattle.row_judge.proofs.Saying.{escaped-is, value_reads, value_first}
 use Rattle.row_judge.proofs.says.next_escaped.Goals as goal
 
-pub slice_bounds-next_counting-end : goal.slice_bounds-next_counting-end
-slice_bounds-next_counting-end c = simp length-take (omega arith)
-
-pub next_counting-requires : goal.next_counting-requires
-next_counting-requires c = search (decoded-read, rules)
+pub invariant_of-question : goal.invariant_of-question
+invariant_of-question c =
+    record {
+      low = c.args.asked.low;
+      reads = value_reads _ _ _ c.args.asked.known _ (escaped-is _ _ _ c.args.asked.known _ _ c.from.ensures c.from-2.ensures _ c.part-raw.ensures.part c.requires.escaped _ _ c.decode-n.ensures) _ c.readings_in.ensures;
+    }
 
 pub returns : goal.returns
-returns c = search (decoded-first, rules)
+returns c = value_first _ _ _ c.args.asked.known _ (escaped-is _ _ _ c.args.asked.known _ _ c.from.ensures c.from-2.ensures _ c.part-raw.ensures.part c.requires.escaped _ _ c.decode-n.ensures) _ _ _ _ _ _ c.next_counting.ensures

@@ -1,16 +1,13 @@
 -- `row_judge::says::next_text` meets its contract: the value is the text's part, or what its escapes stand for. Assumes nothing.
-use borrow.Author.Rules.{rules}
-use Rattle.row_judge.proofs.Saying.{escaped-read, escaped-first, plain-read, plain-first}
+use Rattle.row_judge.proofs.Saying.{plain-is, value_reads, value_first}
 use Rattle.row_judge.proofs.says.next_text.Goals as goal
 
-pub next_escaped-requires : goal.next_escaped-requires
-next_escaped-requires c = search (escaped-read, rules)
-
-pub returns-then-opened : goal.returns-then-opened
-returns-then-opened c = search (escaped-first, rules)
-
-pub next_counting-requires : goal.next_counting-requires
-next_counting-requires c = search (plain-read, rules)
+pub invariant_of-question : goal.invariant_of-question
+invariant_of-question c =
+    record {
+      low = c.args.asked.low;
+      reads = value_reads _ _ _ c.args.asked.known _ (plain-is _ _ _ c.args.asked.known _ _ c.from.ensures c.from-2.ensures _ c.part.ensures.part c.if-opened.false) _ c.readings_in.ensures;
+    }
 
 pub returns : goal.returns
-returns c = search (plain-first, rules)
+returns c = value_first _ _ _ c.args.asked.known _ (plain-is _ _ _ c.args.asked.known _ _ c.from.ensures c.from-2.ensures _ c.part.ensures.part c.if-opened.false) _ _ _ _ _ _ c.next_counting.ensures

@@ -3,11 +3,11 @@ use borrow.Author.Rules.{rules}
 use Rattle.row_judge.proofs.Saying.{probe_known, plain_closed, test_chain, test_opened}
 use Rattle.row_judge.proofs.says.plain_says.Goals as goal
 
-pub next_text-first-requires-clause-on_chain : goal.next_text-first-requires-clause-on_chain
-next_text-first-requires-clause-on_chain c = search (test_chain, rules)
+pub next_text-first-requires : goal.next_text-first-requires
+next_text-first-requires c = search (test_chain, rules)
 
-pub next_text-first-requires-clause-known : goal.next_text-first-requires-clause-known
-next_text-first-requires-clause-known c = search (probe_known, rules)
+pub invariant_of-asked-clause-known : goal.invariant_of-asked-clause-known
+invariant_of-asked-clause-known c = search (probe_known, rules)
 
 pub returns-in_default : goal.returns-in_default
 returns-in_default c = search (plain_closed, rules)

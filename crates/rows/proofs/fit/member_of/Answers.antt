@@ -4,11 +4,11 @@ use Rattle.rows.proofs.Cells.{test_index}
 use Rattle.rows.proofs.Fitting.{member-fits, member_not}
 use Rattle.rows.proofs.fit.member_of.Goals as goal
 
-pub probe_fits-requires-clause-index_bound : goal.probe_fits-requires-clause-index_bound
-probe_fits-requires-clause-index_bound c = search (test_index, rules)
+pub probe_fits-requires : goal.probe_fits-requires
+probe_fits-requires c = search (test_index, rules)
 
-pub bounds-parents-index : goal.bounds-parents-index
-bounds-parents-index c = search (test_index, rules)
+pub bounds-tables-index : goal.bounds-tables-index
+bounds-tables-index c = search (test_index, rules)
 
 pub returns-then-probe_fits : goal.returns-then-probe_fits
 returns-then-probe_fits c = search (member-fits, rules)

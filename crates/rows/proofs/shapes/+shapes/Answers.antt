@@ -16,9 +16,6 @@ shape_in_brackets-returns-then-size-rows t c = search (brackets_large, rules)
 pub shape_in_brackets-returns-then-bundle-eq0 : goal.shape_in_brackets-returns-then-bundle-eq0
 shape_in_brackets-returns-then-bundle-eq0 t c = search (brackets_no_member, rules)
 
-pub shape_in_brackets-shape_of-requires : goal.shape_in_brackets-shape_of-requires
-shape_in_brackets-shape_of-requires t c = (omega arith, (search rules, search (part_few, rules)))
-
 pub shape_in_brackets-deeper-requires-clause-tests_bound : goal.shape_in_brackets-deeper-requires-clause-tests_bound
 shape_in_brackets-deeper-requires-clause-tests_bound t c = tests_few _ _ _ c.requires.rows_len_bound _ _ _ c.shape_of.ensures _ c.in_ok-inner.was
 
@@ -37,20 +34,8 @@ shape_of-returns-then-calls-eq0 t c = search (no_calls, rules)
 pub shape_of-returns-then-rows-eq0 : goal.shape_of-returns-then-rows-eq0
 shape_of-returns-then-rows-eq0 t c = search (no_rows, rules)
 
-pub shape_of-shape_of_first-requires : goal.shape_of-shape_of_first-requires
-shape_of-shape_of_first-requires t c = (omega arith, (search rules, (search rules, search rules)))
-
-pub shape_of-shape_with-requires : goal.shape_of-shape_with-requires
-shape_of-shape_with-requires t c = (omega arith, (search rules, (search rules, search (began_hand, rules))))
-
-pub shape_of-returns : goal.shape_of-returns
-shape_of-returns t c = search (began_read, rules)
-
-pub shape_of-returns-in_err-begun : goal.shape_of-returns-in_err-begun
-shape_of-returns-in_err-begun t c = search (began_none, rules)
-
-pub shape_of_first-stands-requires-clause-index_bound : goal.shape_of_first-stands-requires-clause-index_bound
-shape_of_first-stands-requires-clause-index_bound t c = search (test_index, rules)
+pub shape_of_first-stands-requires : goal.shape_of_first-stands-requires
+shape_of_first-stands-requires t c = search (test_index, rules)
 
 pub shape_of_first-returns-then-stands : goal.shape_of_first-returns-then-stands
 shape_of_first-returns-then-stands t c = search (first_fits, rules)
@@ -58,35 +43,14 @@ shape_of_first-returns-then-stands t c = search (first_fits, rules)
 pub shape_of_first-returns-then-scope-gt0 : goal.shape_of_first-returns-then-scope-gt0
 shape_of_first-returns-then-scope-gt0 t c = search (first-inside, rules)
 
-pub shape_of_first-shape_in_brackets-requires : goal.shape_of_first-shape_in_brackets-requires
-shape_of_first-shape_in_brackets-requires t c = (omega arith, (search rules, search rules))
-
 pub shape_of_first-returns-else-stands : goal.shape_of_first-returns-else-stands
 shape_of_first-returns-else-stands t c = search (first_misfits, rules)
-
-pub shape_of_first-returns-else-scope-gt0 : goal.shape_of_first-returns-else-scope-gt0
-shape_of_first-returns-else-scope-gt0 t c = search (first_bracket, rules)
-
-pub shape_with-deeper-shape-requires-clause-tests_bound : goal.shape_with-deeper-shape-requires-clause-tests_bound
-shape_with-deeper-shape-requires-clause-tests_bound t c = search (hand_few_tests, rules)
-
-pub shape_with-deeper-shape-requires-clause-chain_bound : goal.shape_with-deeper-shape-requires-clause-chain_bound
-shape_with-deeper-shape-requires-clause-chain_bound t c = search (hand_few_levels, rules)
 
 pub shape_with-loop-at-preserved-in-Not : goal.shape_with-loop-at-preserved-in-Not
 shape_with-loop-at-preserved-in-Not t c = search (hand_not, rules)
 
 pub shape_with-returns-then-size-rows : goal.shape_with-returns-then-size-rows
 shape_with-returns-then-size-rows t c = search (hand_large, rules)
-
-pub shape_with-shape_of-requires-in-Connect : goal.shape_with-shape_of-requires-in-Connect
-shape_with-shape_of-requires-in-Connect t c = (omega arith, (search rules, search (part_few, rules)))
-
-pub shape_with-joined-shape-requires-clause-tests_bound : goal.shape_with-joined-shape-requires-clause-tests_bound
-shape_with-joined-shape-requires-clause-tests_bound t c = search (hand_few_tests, rules)
-
-pub shape_with-joined-shape-requires-clause-chain_bound : goal.shape_with-joined-shape-requires-clause-chain_bound
-shape_with-joined-shape-requires-clause-chain_bound t c = search (hand_few_levels, rules)
 
 pub shape_with-joined-shape-requires-clause-tests_bound_2 : goal.shape_with-joined-shape-requires-clause-tests_bound_2
 shape_with-joined-shape-requires-clause-tests_bound_2 t c = search (tests_few, rules)

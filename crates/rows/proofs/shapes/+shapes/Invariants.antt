@@ -18,7 +18,7 @@ abbrev pub decreases-shape_with : goal.decreases-shape_with
 decreases-shape_with l = 4 * l.calls + 1
 
 abbrev pub invariant-shape_with-loop-at : goal.invariant-shape_with-loop-at
-invariant-shape_with-loop-at l = InHand l.kinds l.parents l.filter l.scope l.calls l.rows l.at l.shape
+invariant-shape_with-loop-at l = InHand l.tables.kinds l.tables.parents l.filter l.scope l.calls l.rows l.at l.shape
 
 abbrev pub decreases-shape_with-loop-at : goal.decreases-shape_with-loop-at
 decreases-shape_with-loop-at l = length l.rows - l.at

@@ -5,4 +5,4 @@ use Rattle.search.proofs.Judging.{Facing}
 use Rattle.search.proofs.faults.first_fault.Given as goal
 
 abbrev pub invariant-loop-row : goal.invariant-loop-row
-invariant-loop-row l = Facing (length l.bytes) (parameters_of l.sheet) l.bytes l.fn.rows l.row-index
+invariant-loop-row l = Facing (length l.fn.asked.bytes.now) (parameters_of l.sheet) l.fn.asked.bytes.now l.fn.asked.rows.now l.row-index

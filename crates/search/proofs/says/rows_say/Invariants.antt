@@ -7,4 +7,4 @@ use Rattle.search.proofs.Judging.{Saying}
 use Rattle.search.proofs.says.rows_say.Given as goal
 
 abbrev pub invariant-loop-row : goal.invariant-loop-row
-invariant-loop-row l = Saying (length l.bytes) (alternative_says (parameters_of l.sheet) (entries_of l.card)) l.bytes l.fn.rows l.row-index l.met
+invariant-loop-row l = Saying (length l.fn.asked.bytes.now) (alternative_says (parameters_of l.sheet) (entries_of l.card)) l.fn.asked.bytes.now l.fn.asked.rows.now l.row-index l.met

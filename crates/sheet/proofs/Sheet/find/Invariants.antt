@@ -7,6 +7,7 @@ use Rattle.block.specs.Walking.{coming}
 use Rattle.sheet.specs.Find.{find_from, find}
 use Rattle.sheet.proofs.Sheet.find.Given as goal
 
-abbrev pub invariant-loop-p : goal.invariant-loop-p
-invariant-loop-p l =
-    (l.index + length (coming parameter l.p-iterator) ≤ 32) × (find_from l.index l.bundle l.name (coming parameter l.p-iterator) ≡ find l.bundle l.name (parameters_of l.self))
+abbrev pub invariant-loop-index : goal.invariant-loop-index
+invariant-loop-index l =
+    (l.index-iterator.count + length (coming parameter l.index-iterator.iter) ≤ 32)
+    × (find_from l.index-iterator.count l.bundle l.name (coming parameter l.index-iterator.iter) ≡ find l.bundle l.name (parameters_of l.self))

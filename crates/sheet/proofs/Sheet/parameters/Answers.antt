@@ -1,12 +1,8 @@
 -- `sheet::Sheet::parameters` meets its contract: the walk over a sheet's parameters starts at byte 2. Assumes nothing.
-use native.Mathlib.Omega.{arith}
 use mathlib.Core.Path.{refl, sym}
 use Rattle.sheet.specs.Sheet.{parameter_count, parameters_of}
-use Rattle.sheet.proofs.Read.{sheet_length, sheet_walk, sheet_count}
+use Rattle.sheet.proofs.Read.{sheet_walk, sheet_count}
 use Rattle.sheet.proofs.Sheet.parameters.Goals as goal
-
-pub bounds-self-inside-1 : goal.bounds-self-inside-1
-bounds-self-inside-1 c = omega (arith, sheet_length _ c.self.invariant)
 
 pub invariant_of-result : goal.invariant_of-result
 invariant_of-result c = record { walk = sheet_walk _ c.self.invariant }

@@ -1,29 +1,22 @@
 -- `sheet::Sheet::table` meets its contract: each turn fills the cell of the first parameter to come. Assumes nothing.
 use native.Mathlib.Omega.{arith}
-use mathlib.Core.Path.{◌≡◌, ap, ◌∙◌}
+use mathlib.Core.Path.{ap}
 use mathlib.Core.Logic.{inl}
-use mathlib.Core.List.{List}
 use lib.ListN.{length}
-use Rattle.std.specs.declared.iter.Enumerate.{Enumerate}
-use Rattle.sheet.specs.Sheet.{Parameter, parameter}
-use Rattle.block.specs.declared.walker.Walker.{Walker}
+use Rattle.sheet.specs.Sheet.{parameter}
 use Rattle.block.proofs.Walking.{step_first, none_coming}
-use Rattle.block.specs.Walking.{coming}
+use Rattle.sheet.proofs.Search.{counted_start}
 use Rattle.sheet.proofs.Filling.{filling-start, filling-next, filling_end}
 use Rattle.sheet.proofs.Sheet.table.Goals as goal
 
--- the first parameter has the index 0, and all are to come
-starts : (s t : Enumerate Walker) (x : Walker) {ps : List Parameter} → s ≡ t → t.count ≡ 0 → t.iter ≡ x → coming parameter x ≡ ps → (s.count ≡ 0) × (coming parameter s.iter ≡ ps)
-starts s t x e n i h = (ap (λ (r : Enumerate Walker). r.count) e ∙ n, ap (λ (r : Enumerate Walker). coming parameter r.iter) e ∙ ap (coming parameter) i ∙ h)
-
 pub loop-i-init-derived : goal.loop-i-init-derived
 loop-i-init-derived g c =
-    let s = starts _ _ _ c.into_iter-i-iterator.ensures.into_iter_gives c.enumerate-i-items.ensures.count c.enumerate-i-items.ensures.source c.parameters.ensures.parameters in
+    let s = counted_start _ _ _ c.into_iter-i-iterator.ensures.into_iter_gives c.enumerate-i-items.ensures.count c.enumerate-i-items.ensures.source c.parameters.ensures.parameters in
     ((tt, tt, inl (omega (arith, s.0, ap length s.1, c.parameters.ensures.most))), tt)
 
 pub loop-i-init : goal.loop-i-init
 loop-i-init g c =
-    let s = starts _ _ _ c.into_iter-i-iterator.ensures.into_iter_gives c.enumerate-i-items.ensures.count c.enumerate-i-items.ensures.source c.parameters.ensures.parameters in (
+    let s = counted_start _ _ _ c.into_iter-i-iterator.ensures.into_iter_gives c.enumerate-i-items.ensures.count c.enumerate-i-items.ensures.source c.parameters.ensures.parameters in (
       omega (arith, s.0, ap length s.1, c.parameters.ensures.most),
       λ of computes. rw (s.0, s.1) (filling-start of _ c.parameters.ensures.most),
     )

@@ -6,14 +6,8 @@ use Rattle.spell.proofs.walk.write_choice.Goals as goal
 pub write_word-end-requires : goal.write_word-end-requires
 write_word-end-requires c = search (bundle_room, rules)
 
-pub slice_bounds-write_word-count : goal.slice_bounds-write_word-count
-slice_bounds-write_word-count c = search (bundle-within, rules)
-
 pub write_word-requires : goal.write_word-requires
 write_word-requires c = search (square_room, rules)
-
-pub shape_of-out : goal.shape_of-out
-shape_of-out c = search (choice_long, rules)
 
 pub returns : goal.returns
 returns c = search (choice_puts, rules)

@@ -5,12 +5,3 @@ use Rattle.spell.proofs.walk.write_connective.Goals as goal
 
 pub write_word-requires : goal.write_word-requires
 write_word-requires c = search (and_room, rules)
-
-pub write_word-requires-in-Or : goal.write_word-requires-in-Or
-write_word-requires-in-Or c = search (or_room, rules)
-
-pub returns-in-And : goal.returns-in-And
-returns-in-And c = search (and_puts, rules)
-
-pub returns-in-Or : goal.returns-in-Or
-returns-in-Or c = search (or_puts, rules)

@@ -7,17 +7,8 @@ use Rattle.spell.proofs.walk.write_member.Goals as goal
 pub write_word-end-requires : goal.write_word-end-requires
 write_word-end-requires c = search (dot_room, rules)
 
-pub slice_bounds-write_test-count : goal.slice_bounds-write_test-count
-slice_bounds-write_test-count c = search (dot_within, rules)
-
 pub write_test-requires-clause-room : goal.write_test-requires-clause-room
 write_test-requires-clause-room c = search (member_room, rules)
-
-pub overflow_add-result : goal.overflow_add-result
-overflow_add-result c = record { fits = omega (arith, member-within c.args.filter.now c.args.test _ (search rules) c.write_word-end.ensures c.write_test.ensures) }
-
-pub shape_of-out : goal.shape_of-out
-shape_of-out c = search (member_long, rules)
 
 pub returns : goal.returns
 returns c = search (member_puts, rules)

@@ -7,9 +7,6 @@ use Rattle.syntax.proofs.test.is_name_run.Goals as goal
 pub returns-then-until-at : goal.returns-then-until-at
 returns-then-until-at c = search (run_empty, rules)
 
-pub bounds-s-at : goal.bounds-s-at
-bounds-s-at c = search (run_inside, rules)
-
 pub returns-then-not-is_name_start : goal.returns-then-not-is_name_start
 returns-then-not-is_name_start c = search (run-start_not, not-true, rules)
 

@@ -16,12 +16,12 @@ loop-k-init c = trying_starts _ _ _ refl
 pub returns-then-letters-word : goal.returns-then-letters-word
 returns-then-letters-word c =
     trying_found c.args.s.now c.args.at (search rules) _ c.loop-k.k c.loop-k.invariant (search rules) _ _ (search rules)
-    c.from_be_bytes-letters.ensures c.from_be_bytes-word.ensures c.if-letters-word.true
+    c.from_be_bytes-letters.ensures (rw c.from-i.ensures at c.from_be_bytes-word.ensures) c.if-letters-word.true
 
 pub loop-k-preserved : goal.loop-k-preserved
 loop-k-preserved c =
     trying_next c.args.s.now c.args.at (search rules) _ c.loop-k.k c.loop-k.invariant (search rules) _ _ (search rules)
-    c.from_be_bytes-letters.ensures c.from_be_bytes-word.ensures c.if-letters-word.false
+    c.from_be_bytes-letters.ensures (rw c.from-i.ensures at c.from_be_bytes-word.ensures) c.if-letters-word.false
 
 pub returns : goal.returns
 returns c = search (trying_ends, rules)

@@ -7,9 +7,6 @@ use Rattle.syntax.proofs.Decoding.{decoding_starts, decoding_byte, decoding_back
 use Rattle.syntax.proofs.value.decode.Goals as goal
 use Rattle.syntax.proofs.value.decode.Goals.{in-Some, in-None}
 
-pub loop-b-init : goal.loop-b-init
-loop-b-init c = (search (decoding_starts, rules), refl)
-
 pub loop-b-preserved : goal.loop-b-preserved
 loop-b-preserved c =
     let here : c.loop-b.b-index < length c.args.raw.now = search rules in

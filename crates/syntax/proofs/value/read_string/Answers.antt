@@ -3,9 +3,6 @@ use borrow.Author.Rules.{rules}
 use Rattle.syntax.proofs.Values.{string_starts, string_more, string_closes, string_wrong, string_open}
 use Rattle.syntax.proofs.value.read_string.Goals as goal
 
-pub loop-end-init : goal.loop-end-init
-loop-end-init c = search (string_starts, rules)
-
 pub loop-end-preserved : goal.loop-end-preserved
 loop-end-preserved c = search (string_more, rules)
 
